@@ -1,0 +1,6 @@
+pub mod Name
+pub mod Tree
+pub mod Store
+pub mod Kids
+pub mod Place
+pub mod Code

@@ -1,0 +1,4 @@
+pub mod Machine
+pub mod Lawful
+pub mod Chains
+pub mod Settled

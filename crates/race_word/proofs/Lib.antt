@@ -1,0 +1,14 @@
+pub mod Sums
+pub mod Keeps
+pub mod Crowns
+pub mod Moves
+pub mod Steps
+pub mod Polling
+pub mod Closing
+pub mod Shows
+pub mod Follows
+pub mod Having
+pub mod Racers
+pub mod Points
+pub mod Moments
+pub mod Raced

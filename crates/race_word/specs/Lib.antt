@@ -1,0 +1,11 @@
+pub mod Views
+pub mod Has
+pub mod Plays
+pub mod Runner
+pub mod RacerIs
+pub mod Keeps
+pub mod Rule
+pub mod Shown
+pub mod Points
+pub mod Moments
+pub mod Raced

@@ -1,0 +1,10 @@
+pub mod Names
+pub mod Literals
+pub mod Agreeing
+pub mod Searching
+pub mod Meaning
+pub mod TextLines
+pub mod Leaving
+pub mod Sounds
+pub mod Reaching
+pub mod Runs

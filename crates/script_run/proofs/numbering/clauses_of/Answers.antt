@@ -1,0 +1,15 @@
+use Rattle.std.proofs.Common.{◌<◌, ◌≡◌, length, get_or, arith, ◌++◌, ◌∷◌, []}
+use Rattle.script_run.specs.Numbering.{MeansClause}
+use Rattle.script_run.proofs.Literals.{zip_more}
+use Rattle.script_run.proofs.numbering.clauses_of.Goals as goal
+
+pub loop-id-preserved : goal.loop-id-preserved
+loop-id-preserved c =
+    let ts = c.args.store.now in
+    let is = c.args.ids.now in
+    let k = c.loop-id.id-index in
+    let clause = c.in_ok-clause_of.field-0 in
+    let within : k < length is = grind arith in
+    let here : get_or is k c.id-item.result ≡ c.id-item.result = grind arith in
+    let new : c.push.new.self ≡ c.loop-id.clauses ++ clause ∷ [] = grind arith in
+    rw new (zip_more (MeansClause c.args.numbers.now.keys) ts is k c.id-item.result c.loop-id.clauses clause within c.loop-id.invariant (rw here c.in_ok-clause_of.ensures))

@@ -1,0 +1,8 @@
+pub mod Truth
+pub mod Clauses
+pub mod Numbering
+pub mod Reserved
+pub mod Texts
+pub mod Session
+pub mod Output
+pub mod Run

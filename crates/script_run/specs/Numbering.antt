@@ -1,0 +1,48 @@
+-- Names by their numbers: the place of each in a list of names.
+use Rattle.std.specs.Prelude.{◌≡◌, ℕ, ◌<◌, List, [], length, Some, Contains}
+use Rattle.std.specs.List.{AllZip}
+use Rattle.std.proofs.Common.{get_or}
+use Rattle.qterm.specs.declared.name.Name.{Name}
+use Rattle.qterm.specs.declared.name.Sort.TheVariants as sort
+use Rattle.qterm.specs.Tree.{Tree}
+use Rattle.qeval.specs.Value.{Valuation, value_of, bool_of}
+use Rattle.qeval.specs.Eval.{truth}
+use Rattle.smt_script.specs.Clause.{Literal, literal_in}
+use Rattle.script_run.specs.declared.clauses.NumberedLiteral.{NumberedLiteral}
+use Rattle.script_run.specs.Clauses.{Values, is_true, holds, IsBelow}
+
+-- no name stands twice
+abbrev pub AreDistinct : List Name → Type 0
+AreDistinct names = (i j : ℕ) (d : Name) → i < length names → j < length names → get_or names i d ≡ get_or names j d → i ≡ j
+
+-- the name n stands at the place i
+pub record IsAt (names : List Name) (n : Name) (i : ℕ) : Type 0 where
+  pub within : i < length names
+  pub is : get_or names i n ≡ n
+
+abbrev pub name_at : List Name → ℕ → Name
+name_at names i = get_or names i (record { text = []; sort = sort.Bool })
+
+-- the values that a valuation gives the numbered names
+abbrev pub values_by : Valuation → List Name → Values
+values_by V names i = bool_of (value_of V (name_at names i))
+
+-- the term is a literal of one of the names
+pub record IsLiteralOver (names : List Name) (t : Tree) : Type 0 where
+  pub literal : Literal
+  pub is : literal_in t ≡ Some literal
+  pub among : Contains names literal.name
+
+-- the numbered literal has the value of the term under every valuation
+pub record MeansLiteral (names : List Name) (t : Tree) (literal : NumberedLiteral) : Type 0 where
+  pub within : literal.name < length names
+  pub same : (V : Valuation) → truth V t ≡ is_true (values_by V names) literal
+
+-- the numbered clause has the value of the term under every valuation
+pub record MeansClause (names : List Name) (t : Tree) (clause : List NumberedLiteral) : Type 0 where
+  pub below : IsBelow (length names) clause
+  pub same : (V : Valuation) → truth V t ≡ holds (values_by V names) clause
+
+-- the numbered clauses have the values of the formulas under every valuation
+abbrev pub MeanClauses : List Name → List Tree → List (List NumberedLiteral) → Type 0
+MeanClauses names ts clauses = AllZip (MeansClause names) ts clauses

@@ -1,0 +1,86 @@
+-- How a run ends, and what it has then written.
+use Rattle.std.specs.Prelude.{◌≡◌, ◌≤◌, ℕ, Bool, false, if◌then◌else◌, nat_lt, List, [], ◌∷◌, length, Option, None, Some, IfSome}
+use Rattle.std.specs.Str.{bytes_eq}
+use Rattle.std.specs.Io.KnownBytes.{Appends, Keeps}
+use Rattle.sexp_read.specs.Outside.{AppendsFront, IsFlushed, Rose}
+use Rattle.smt_script.specs.declared.script.ScriptError.{ScriptError}
+use Rattle.smt_script.specs.declared.script.What.TheVariants.{TooLong}
+use Rattle.smt_script.specs.Command.{ScriptTree}
+use Rattle.smt_script.specs.Script.{script_of}
+use Rattle.script_run.specs.declared.top.Ended.{Ended}
+use Rattle.script_run.specs.declared.top.Ended.TheVariants as e
+use Rattle.script_run.specs.declared.top.TheConstants.{MOST, RUN}
+use Rattle.script_run.specs.declared.texts.TheConstants.{USAGE}
+use Rattle.script_run.specs.Session.{RecordTree}
+use Rattle.script_run.specs.Output.{End, over, start, output, end_of, AreRecords}
+
+-- the status of a program that ends so
+abbrev pub code : Ended → ℕ
+code e.Done = 0
+code e.Fault = 1
+code e.Usage = 2
+code e.Memory = 3
+code e.ReadFault = 4
+code e.WriteFault = 5
+
+-- all of the text is written and flushed
+pub record Wrote (text : List ℕ) (old new : Option (List ℕ)) (flushed : Option ℕ) : Type 0 where
+  pub whole : Appends old new text
+  pub flush : IsFlushed new flushed
+
+-- A run over a text that ends so: all of it is written at the end, and a front of it at want of memory and at a failed write.
+abbrev pub Ran : List ℕ → End → Option (List ℕ) → Option (List ℕ) → Option ℕ → Ended → Type 0
+Ran text end old new flushed e.Done = (end ≡ over None) × Wrote text old new flushed
+Ran text end old new flushed e.Fault = (fault : ScriptError) × (end ≡ over (Some fault)) × Wrote text old new flushed
+Ran text end old new flushed e.Memory = AppendsFront old new text
+Ran text end old new flushed e.WriteFault = AppendsFront old new text
+Ran text end old new flushed e.ReadFault = ⊥
+Ran text end old new flushed e.Usage = ⊥
+
+-- the sink's count has not fallen, and it rose where a write failed
+pub record HasCauseOf (before now : ℕ) (ended : Ended) : Type 0 where
+  pub later : before ≤ now
+  pub failed : ended ≡ e.WriteFault → Rose before now
+
+-- the fault of a script that is too long, which is told of its first byte
+abbrev pub too_long : ScriptError
+too_long = record { what = TooLong; place = 0 }
+
+-- the script of the bytes, or of too many bytes
+unfoldable pub whole_script : List ℕ → ScriptTree
+whole_script bytes = if nat_lt MOST (length bytes) then record { commands = []; fault = Some too_long } else script_of bytes
+
+-- A run over the text of a script that these bytes spell.
+abbrev pub RanOver : List ℕ → ScriptTree → List RecordTree → Option (List ℕ) → Option (List ℕ) → Option ℕ → Ended → Type 0
+RanOver bytes script journal old new flushed ended =
+    Ran (output bytes start script.commands script.fault journal) (end_of start script.commands script.fault journal) old new flushed ended
+
+-- Some bytes, those that the source had left where it tells them, are a script that was run so.
+pub record RanWith (left : Option (List ℕ)) (bytes : List ℕ) (journal : List RecordTree) (old new : Option (List ℕ)) (flushed : Option ℕ) (ended : Ended) : Type 0 where
+  pub told : IfSome left (λ all. all ≡ bytes)
+  pub records : AreRecords start (whole_script bytes).commands journal
+  pub ran : RanOver bytes (whole_script bytes) journal old new flushed ended
+
+-- A run of what a source has left. A failed read leaves nothing written and no record.
+abbrev pub RanFrom : Option (List ℕ) → List RecordTree → Option (List ℕ) → Option (List ℕ) → Option ℕ → Ended → Type 0
+RanFrom left journal old new flushed e.ReadFault = (journal ≡ []) × Keeps old new
+RanFrom left journal old new flushed e.Done = (bytes : List ℕ) × RanWith left bytes journal old new flushed e.Done
+RanFrom left journal old new flushed e.Fault = (bytes : List ℕ) × RanWith left bytes journal old new flushed e.Fault
+RanFrom left journal old new flushed e.Usage = ⊥
+RanFrom left journal old new flushed e.Memory = (bytes : List ℕ) × RanWith left bytes journal old new flushed e.Memory
+RanFrom left journal old new flushed e.WriteFault = (bytes : List ℕ) × RanWith left bytes journal old new flushed e.WriteFault
+
+-- whether the words are the one word `run`
+abbrev pub is_run : List (List ℕ) → Bool
+is_run [] = false
+is_run (word ∷ []) = bytes_eq word RUN.now
+is_run (word ∷ next ∷ more) = false
+
+-- what a run with other words writes
+abbrev pub Misused : Option (List ℕ) → Option (List ℕ) → Option ℕ → Ended → Type 0
+Misused old new flushed e.Usage = Wrote USAGE.now old new flushed
+Misused old new flushed e.WriteFault = AppendsFront old new USAGE.now
+Misused old new flushed e.Done = ⊥
+Misused old new flushed e.Fault = ⊥
+Misused old new flushed e.Memory = ⊥
+Misused old new flushed e.ReadFault = ⊥

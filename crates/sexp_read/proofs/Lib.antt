@@ -1,0 +1,12 @@
+pub mod Tokens
+pub mod Opened
+pub mod Spells
+pub mod Ends
+pub mod Reasons
+pub mod Words
+pub mod AtomsThere
+pub mod Finish
+pub mod Complete
+pub mod Shown
+pub mod Told
+pub mod Lexes

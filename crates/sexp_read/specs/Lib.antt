@@ -1,0 +1,12 @@
+pub mod Outside
+pub mod Memory
+pub mod Sure
+pub mod Lexical
+pub mod Token
+pub mod Sexp
+pub mod Spelling
+pub mod Atoms
+pub mod Place
+pub mod Standard
+pub mod Faults
+pub mod Written

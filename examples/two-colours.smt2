@@ -1,0 +1,22 @@
+; A path of four nodes in two colours: a node is red or it isn't, and neighbours differ. The first is red.
+; => sat
+; => (
+; =>   (define-fun a () Bool true)
+; =>   (define-fun b () Bool false)
+; =>   (define-fun c () Bool true)
+; =>   (define-fun d () Bool false)
+; => )
+(set-logic QF_LIA)
+(declare-const a Bool)
+(declare-const b Bool)
+(declare-const c Bool)
+(declare-const d Bool)
+(assert (or a b))
+(assert (or (not a) (not b)))
+(assert (or b c))
+(assert (or (not b) (not c)))
+(assert (or c d))
+(assert (or (not c) (not d)))
+(assert a)
+(check-sat-using sat)
+(get-model)
