@@ -1,0 +1,11 @@
+mod Numbers
+mod Totals
+mod Forms
+mod Truths
+mod Sorts
+mod Values
+mod Linear
+mod Atoms
+mod Canonical
+mod Negations
+mod Closed

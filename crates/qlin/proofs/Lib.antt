@@ -1,0 +1,8 @@
+mod Rows
+pub mod Gcds
+pub mod Orders
+pub mod Merges
+pub mod Scales
+pub mod Readings
+pub mod Steps
+pub mod Sorting

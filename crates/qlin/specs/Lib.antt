@@ -1,0 +1,16 @@
+pub mod Order
+pub mod Number
+pub mod Form
+pub mod Linear
+pub mod Atom
+pub mod Junction
+pub mod Iff
+pub mod Ite
+pub mod Negation
+pub mod Canon
+pub mod CanonList
+pub mod Steps
+pub mod Lin
+pub mod Reading
+pub mod Merge
+pub mod Sort
