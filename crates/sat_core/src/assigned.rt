@@ -1,7 +1,7 @@
 //! The values of the variables during a search: a table by variable for look-ups, and the trail, which is the list of
 //! the literals that are set true, in the order in which they were set. The two always agree, and no variable is set
 //! twice.
-ghost use Rattle.std.specs.Prelude.{◌≡◌, ◌<◌, ◌∷◌, ◌++◌, [], List, ℕ, IfOk, OnOk, length, false};
+ghost use Rattle.std.specs.Prelude.{◌≡◌, ◌<◌, ◌∷◌, ◌++◌, [], List, ℕ, IfOk, OnOk, OnErr, length, false};
 ghost use Rattle.rup.specs.declared.literal.Lit.{Lit};
 ghost use Rattle.rup.specs.Literals as literals;
 ghost use Rattle.sat_core.specs.Agrees as agrees;
@@ -59,6 +59,7 @@ impl Assigned {
         requires var { l.var < self.old.0 }
         requires unset { has_var self.old.1 l.var ≡ false }
         ensures set { OnOk result (self.new ≡ (self.old.0, self.old.1 ++ l ∷ [])) }
+        ensures err { OnErr result (self.new ≡ self.old) }
     {
         self.trail.push(l)?;
         self.values[l.var as usize] = Some(l.positive);
