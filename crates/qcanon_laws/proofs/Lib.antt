@@ -2,10 +2,10 @@ mod Numbers
 mod Totals
 mod Forms
 mod Truths
-mod Sorts
+pub mod Sorts
 mod Values
-mod Linear
-mod Atoms
-mod Canonical
-mod Negations
-mod Closed
+pub mod Linear
+pub mod Atoms
+pub mod Canonical
+pub mod Negations
+pub mod Closed
