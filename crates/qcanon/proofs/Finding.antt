@@ -1,5 +1,5 @@
 -- The canonical form of a term by its children, and the first subterm that has none.
-use Rattle.std.proofs.Common.{◌≡◌, ℕ, ◌<◌, List, [], ◌∷◌, map, get_or, arith, length, All, Option, Some, None, Result, Ok, Err, refl, sym, ap, subst, ◌∙◌}
+use Rattle.std.proofs.Common.{◌≡◌, ℕ, List, [], ◌∷◌, map, get_or, arith, length, All, Some, None, Result, Ok, Err, refl, sym, ap, subst, ◌∙◌}
 use Rattle.std.specs.List.{AllZip}
 use Rattle.std.proofs.lemmas.Slice.Zip.{AllZip-long}
 use Rattle.std.proofs.lemmas.List.{length-map}
@@ -21,7 +21,7 @@ use Rattle.qcanon_laws.proofs.Sorts.{Good, Finds, canon_good}
 use Rattle.qcanon_laws.proofs.Closed.{its_own}
 use Rattle.qcanon.specs.declared.walk.Outcome.{Outcome}
 use Rattle.qcanon.specs.declared.walk.Outcome.TheVariants.{Canonical, Faulty}
-use Rattle.qcanon.specs.Answer.{IsOwn, Answers}
+use Rattle.qcanon.specs.Answer.{IsOwn}
 use Rattle.qcanon.specs.Walk.{over, IsFound, id_of, first_fault}
 
 -- ---- by the children of a term
@@ -157,7 +157,7 @@ stands_over ts t k l os js w e p z f j r =
     let sorts : AllZip (λ i j. HasSort (sort_of (tree_at ts i)) ts j) (ids k) js = subst (AllZip (λ i j. HasSort (sort_of (tree_at ts i)) ts j) (ids k)) (sym j) (sorts_ids ts (ids k) os w has z' f) in
     let all : canons (kids t) ≡ Ok (trees_at ts js) = found_kids ts (kids t) os z f ∙ ap (λ is. Ok (trees_at ts is)) (sym j) in
     let grown : rebuild t (trees_at ts js) ≡ grow ts l =
-        ap (λ u. rebuild u (trees_at ts js)) e ∙ rebuild_grow ts k (trees_at ts js) ∙ sym (grow_replace ts k js many) ∙ ap (grow ts) (sym r) in
+    ap (λ u. rebuild u (trees_at ts js)) e ∙ rebuild_grow ts k (trees_at ts js) ∙ sym (grow_replace ts k js many) ∙ ap (grow ts) (sym r) in
     record {
       fits = subst (Fits ts) (sym r) (Fits_replace ts ts k js p sorts);
       own = subst (λ x. All (IsOwn ts) (ids x)) (sym r) (all_replace (IsOwn ts) k js many own);

@@ -1,3 +1,4 @@
 pub mod Answer
+pub mod List
 pub mod Stub
 pub mod Walk

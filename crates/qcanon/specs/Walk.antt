@@ -1,6 +1,6 @@
 -- The canonical form of a term whose children are canonical, and what the walk answers for each subterm.
-use Rattle.std.specs.Prelude.{◌≡◌, ℕ, List, [], ◌∷◌, Bool as Truth, true, false, Option, Some, None, Result, Ok, Err}
-use Rattle.qterm.specs.Tree.{Tree, Trees, True, False, Var, Num, Sum, Scale, Le, Eq, Iff, Not, And, Or, Ite}
+use Rattle.std.specs.Prelude.{◌≡◌, ℕ, List, [], ◌∷◌, true, false, Option, Some, None, Result, Ok, Err}
+use Rattle.qterm.specs.Tree.{Tree, True, False, Var, Num, Sum, Scale, Le, Eq, Iff, Not, And, Or, Ite}
 use Rattle.qterm.specs.Store.{tree_at, Has}
 use Rattle.qlin.specs.Linear.{num_of, sum_of, scale_of}
 use Rattle.qlin.specs.Atom.{le_of, eq_of}

@@ -15,7 +15,12 @@ ghost use Rattle.qcanon.specs.Stub.{AreNegations};
 use qterm::{Store, TermId};
 use std::alloc::{AllocError, Global};
 
-pub(crate) fn at_most(alloc: Global, store: &mut Store, left: TermId, right: TermId) -> Result<Option<TermId>, AllocError>
+pub(crate) fn at_most(
+    alloc: Global,
+    store: &mut Store,
+    left: TermId,
+    right: TermId,
+) -> Result<Option<TermId>, AllocError>
     requires left_int { HasSort Int store.old left }
     requires right_int { HasSort Int store.old right }
     requires left_own { IsOwn store.old left }
@@ -26,7 +31,12 @@ pub(crate) fn at_most(alloc: Global, store: &mut Store, left: TermId, right: Ter
     Err(AllocError)
 }
 
-pub(crate) fn equal(alloc: Global, store: &mut Store, left: TermId, right: TermId) -> Result<Option<TermId>, AllocError>
+pub(crate) fn equal(
+    alloc: Global,
+    store: &mut Store,
+    left: TermId,
+    right: TermId,
+) -> Result<Option<TermId>, AllocError>
     requires left_int { HasSort Int store.old left }
     requires right_int { HasSort Int store.old right }
     requires left_own { IsOwn store.old left }
@@ -36,4 +46,3 @@ pub(crate) fn equal(alloc: Global, store: &mut Store, left: TermId, right: TermI
 {
     Err(AllocError)
 }
-

@@ -1,4 +1,7 @@
 //! Why there is no canonical form.
+ghost use Rattle.std.specs.Prelude.{◌≡◌};
+ghost use Rattle.qcanon.specs.declared.error.CanonError.TheVariants.{Memory};
+
 use qterm::TermId;
 use std::alloc::AllocError;
 
@@ -10,4 +13,12 @@ pub enum CanonError {
     TooWide { term: TermId },
     /// There was no memory.
     Memory(AllocError),
+}
+
+impl From<AllocError> for CanonError {
+    ghost from_gives = { λ cause e. e ≡ Memory cause };
+
+    fn from(cause: AllocError) -> CanonError {
+        CanonError::Memory(cause)
+    }
 }

@@ -15,11 +15,15 @@ ghost use Rattle.qcanon.specs.Stub.{AreNegations};
 use qterm::{Store, TermId};
 use std::alloc::{AllocError, Global};
 
-pub(crate) fn junction(alloc: Global, store: &mut Store, is_and: bool, ids: &[TermId]) -> Result<TermId, AllocError>
+pub(crate) fn junction(
+    alloc: Global,
+    store: &mut Store,
+    is_and: bool,
+    ids: &[TermId],
+) -> Result<TermId, AllocError>
     requires formulas { All (HasSort Bool store.old) ids.now }
     ensures shows { IfOk result (λ id. Shows store.new id (junction is_and (trees_at store.old ids.now))) }
     ensures extends { Extends store.old store.new }
 {
     Err(AllocError)
 }
-

@@ -8,9 +8,11 @@ mod atom;
 mod error;
 mod junction;
 mod linear;
+mod list;
 mod negation;
 mod pair;
 mod walk;
 
 pub use error::CanonError;
+pub use list::canon_list;
 pub use walk::canon;

@@ -22,7 +22,11 @@ pub(crate) fn number(store: &mut Store, value: i128) -> Result<Option<TermId>, A
     Err(AllocError)
 }
 
-pub(crate) fn sum(alloc: Global, store: &mut Store, ids: &[TermId]) -> Result<Option<TermId>, AllocError>
+pub(crate) fn sum(
+    alloc: Global,
+    store: &mut Store,
+    ids: &[TermId],
+) -> Result<Option<TermId>, AllocError>
     requires ints { All (HasSort Int store.old) ids.now }
     requires own { All (IsOwn store.old) ids.now }
     ensures answers { IfOk result (Answers store.new (sum_of (trees_at store.old ids.now))) }
@@ -31,7 +35,12 @@ pub(crate) fn sum(alloc: Global, store: &mut Store, ids: &[TermId]) -> Result<Op
     Err(AllocError)
 }
 
-pub(crate) fn scale(alloc: Global, store: &mut Store, by: i128, id: TermId) -> Result<Option<TermId>, AllocError>
+pub(crate) fn scale(
+    alloc: Global,
+    store: &mut Store,
+    by: i128,
+    id: TermId,
+) -> Result<Option<TermId>, AllocError>
     requires int { HasSort Int store.old id }
     requires own { IsOwn store.old id }
     ensures answers { IfOk result (Answers store.new (scale_of by (tree_at store.old id))) }
@@ -39,4 +48,3 @@ pub(crate) fn scale(alloc: Global, store: &mut Store, by: i128, id: TermId) -> R
 {
     Err(AllocError)
 }
-

@@ -25,11 +25,18 @@ impl Negations {
     pub(crate) fn new(alloc: Global) -> Negations
         ensures right { (ts : List Tree) → AreNegations ts result }
     {
-        Negations { stub: Vec::new(alloc) }
+        Negations {
+            stub: Vec::new(alloc),
+        }
     }
 }
 
-pub(crate) fn negate(alloc: Global, store: &mut Store, table: &mut Negations, id: TermId) -> Result<Option<TermId>, AllocError>
+pub(crate) fn negate(
+    alloc: Global,
+    store: &mut Store,
+    table: &mut Negations,
+    id: TermId,
+) -> Result<Option<TermId>, AllocError>
     requires formula { HasSort Bool store.old id }
     requires own { IsOwn store.old id }
     requires table { AreNegations store.old table.old }
@@ -39,4 +46,3 @@ pub(crate) fn negate(alloc: Global, store: &mut Store, table: &mut Negations, id
 {
     Err(AllocError)
 }
-

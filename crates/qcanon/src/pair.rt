@@ -16,7 +16,13 @@ use crate::negation::Negations;
 use qterm::{Store, TermId};
 use std::alloc::{AllocError, Global};
 
-pub(crate) fn iff(alloc: Global, store: &mut Store, table: &mut Negations, left: TermId, right: TermId) -> Result<Option<TermId>, AllocError>
+pub(crate) fn iff(
+    alloc: Global,
+    store: &mut Store,
+    table: &mut Negations,
+    left: TermId,
+    right: TermId,
+) -> Result<Option<TermId>, AllocError>
     requires left_formula { HasSort Bool store.old left }
     requires right_formula { HasSort Bool store.old right }
     requires left_own { IsOwn store.old left }
@@ -29,7 +35,14 @@ pub(crate) fn iff(alloc: Global, store: &mut Store, table: &mut Negations, left:
     Err(AllocError)
 }
 
-pub(crate) fn ite(alloc: Global, store: &mut Store, table: &mut Negations, condition: TermId, then_term: TermId, else_term: TermId) -> Result<Option<TermId>, AllocError>
+pub(crate) fn ite(
+    alloc: Global,
+    store: &mut Store,
+    table: &mut Negations,
+    condition: TermId,
+    then_term: TermId,
+    else_term: TermId,
+) -> Result<Option<TermId>, AllocError>
     requires formula { HasSort Bool store.old condition }
     requires then_has { Has store.old then_term }
     requires one_sort { HasSort (sort_of (tree_at store.old then_term)) store.old else_term }
@@ -43,4 +56,3 @@ pub(crate) fn ite(alloc: Global, store: &mut Store, table: &mut Negations, condi
 {
     Err(AllocError)
 }
-

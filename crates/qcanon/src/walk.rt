@@ -32,10 +32,8 @@ pub fn canon(alloc: Global, store: &mut Store, id: TermId) -> Result<TermId, Can
     ensures extends { Extends store.old store.new }
 {
     let mut forms = Forms::new(alloc);
-    match fold_terms(alloc, store, &mut forms, id) {
-        Ok(found) => answer(&found),
-        Err(error) => Err(CanonError::Memory(error)),
-    }
+    let found = fold_terms(alloc, store, &mut forms, id)?;
+    answer(&found)
 }
 
 /// A canonical term, or the subterm without one as an error.
@@ -148,12 +146,7 @@ fn id_of(out: &Outcome) -> TermId
 }
 
 /// The term with the canonical children that were answered in the place of its own.
-fn term_over(
-    alloc: Global,
-    store: &Store,
-    id: TermId,
-    outs: &[Outcome],
-) -> Result<Term, AllocError>
+fn term_over(alloc: Global, store: &Store, id: TermId, outs: &[Outcome]) -> Result<Term, AllocError>
     requires has { Has store.now id }
     requires children { AllZip (IsFound store.now) (listed (kids (tree_at store.now id))) outs.now }
     requires all { first_fault outs.now ≡ None }

@@ -1,6 +1,5 @@
-use Rattle.std.proofs.Common.{◌≡◌, ◌∙◌, map}
+use Rattle.std.proofs.Common.{◌∙◌}
 use Rattle.qterm.specs.Store.{tree_at}
-use Rattle.qcanon.specs.Walk.{id_of}
 use Rattle.qcanon.proofs.Finding.{as_many, stands_over, StandsOver}
 use Rattle.qcanon.proofs.walk.term_over.Goals as goal
 
