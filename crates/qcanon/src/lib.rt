@@ -11,6 +11,8 @@ mod linear;
 mod list;
 mod negation;
 mod pair;
+#[cfg(test)]
+mod tests;
 mod walk;
 
 pub use error::CanonError;

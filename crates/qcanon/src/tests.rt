@@ -1,0 +1,419 @@
+//! Small terms with their canonical forms, lists of formulas, and terms of many parts and levels.
+//!
+//! A term is written as its children and then a sign: `<` for at most, `=`, `~` for Iff, `!` for Not, `?` for Ite, `*` for a numeral
+//! times a term, and `+`, `&` and `|` after the number of their children. `-` changes the sign of a numeral, `M` is 2^127 - 1 and
+//! `B` is -2^127. Names are the Int `x` and `y` and the Bool `p`, `q` and `X`, which has the text of `x`.
+ghost use Rattle.std.specs.Prelude.{◌↔◌, IsTrue, All};
+ghost use Rattle.qterm.specs.Store.{Has};
+
+use crate::{CanonError, canon, canon_list};
+use qterm::{Name, Sort, Store, Term, TermId, TermIds};
+use std::alloc::{AllocError, Global};
+use std::test::Fail;
+
+/// The id of a term whose children are in the store.
+fn kept(store: &mut Store, term: Term) -> Result<TermId, AllocError> {
+    if store.fits(&term) {
+        store.intern(term)
+    } else {
+        Err(AllocError)
+    }
+}
+
+/// The id of a name of one letter.
+fn name(alloc: Global, store: &mut Store, letter: u8, sort: Sort) -> Result<TermId, AllocError> {
+    let text = [letter];
+    if Name::allows(&text) {
+        kept(store, Term::Var(Name::new(alloc, &text, sort)?))
+    } else {
+        Err(AllocError)
+    }
+}
+
+/// The last term.
+fn pop(stack: &mut Vec<TermId>) -> Result<TermId, AllocError> {
+    match stack.pop() {
+        Some(id) => Ok(id),
+        None => Err(AllocError),
+    }
+}
+
+/// The number that the last term is.
+fn pop_number(store: &Store, stack: &mut Vec<TermId>) -> Result<i128, AllocError> {
+    let id = pop(stack)?;
+    if !store.has(id) {
+        return Err(AllocError);
+    }
+    match store.view(id) {
+        Term::Num(number) => Ok(*number),
+        _ => Err(AllocError),
+    }
+}
+
+/// The terms before the last, which says how many they are.
+fn pop_all(alloc: Global, store: &Store, stack: &mut Vec<TermId>) -> Result<TermIds, AllocError> {
+    let count = pop_number(store, stack)?;
+    let mut ids = Vec::new(alloc);
+    for _ in 0..count {
+        ids.push(pop(stack)?)?;
+    }
+    ids.reverse();
+    Ok(TermIds::from_vec(ids))
+}
+
+/// A numeral with one digit more.
+fn longer(number: i128, digit: u8) -> Result<Term, AllocError> {
+    let last = i128::from(digit.saturating_sub(b'0'));
+    match number.checked_mul(10) {
+        Some(front) => match front.checked_add(last) {
+            Some(value) => Ok(Term::Num(value)),
+            None => Err(AllocError),
+        },
+        None => Err(AllocError),
+    }
+}
+
+/// The number with the other sign.
+fn negated(number: i128) -> Result<Term, AllocError> {
+    match number.checked_neg() {
+        Some(value) => Ok(Term::Num(value)),
+        None => Err(AllocError),
+    }
+}
+
+/// The term of a sign over the last terms.
+fn over(
+    alloc: Global,
+    store: &Store,
+    stack: &mut Vec<TermId>,
+    sign: u8,
+) -> Result<Term, AllocError> {
+    match sign {
+        b't' => Ok(Term::True),
+        b'f' => Ok(Term::False),
+        b'M' => Ok(Term::Num(i128::MAX)),
+        b'B' => Ok(Term::Num(i128::MIN)),
+        b'-' => negated(pop_number(store, stack)?),
+        b'!' => Ok(Term::Not(pop(stack)?)),
+        b'+' => Ok(Term::Sum(pop_all(alloc, store, stack)?)),
+        b'&' => Ok(Term::And(pop_all(alloc, store, stack)?)),
+        b'|' => Ok(Term::Or(pop_all(alloc, store, stack)?)),
+        _ => over_pair(store, stack, sign),
+    }
+}
+
+/// The term of a sign over the last two or three terms.
+fn over_pair(store: &Store, stack: &mut Vec<TermId>, sign: u8) -> Result<Term, AllocError> {
+    let right = pop(stack)?;
+    if sign == b'*' {
+        return Ok(Term::Scale(pop_number(store, stack)?, right));
+    }
+    let left = pop(stack)?;
+    match sign {
+        b'<' => Ok(Term::Le(left, right)),
+        b'=' => Ok(Term::Eq(left, right)),
+        b'~' => Ok(Term::Iff(left, right)),
+        b'?' => Ok(Term::Ite(pop(stack)?, left, right)),
+        _ => Err(AllocError),
+    }
+}
+
+/// Puts the term of a byte on the stack; `before` is the byte before it.
+fn take(
+    alloc: Global,
+    store: &mut Store,
+    stack: &mut Vec<TermId>,
+    before: u8,
+    byte: u8,
+) -> Result<(), AllocError> {
+    let id = match byte {
+        b' ' => return Ok(()),
+        b'x' | b'y' => name(alloc, store, byte, Sort::Int)?,
+        b'p' | b'q' => name(alloc, store, byte, Sort::Bool)?,
+        b'X' => name(alloc, store, b'x', Sort::Bool)?,
+        b'0'..=b'9' => {
+            let front = if before.is_ascii_digit() { pop_number(store, stack)? } else { 0 };
+            kept(store, longer(front, byte)?)?
+        }
+        _ => {
+            let term = over(alloc, store, stack, byte)?;
+            kept(store, term)?
+        }
+    };
+    stack.push(id)?;
+    Ok(())
+}
+
+/// The terms of a text.
+fn read(alloc: Global, store: &mut Store, text: &[u8]) -> Result<Vec<TermId>, AllocError> {
+    let mut stack = Vec::new(alloc);
+    let mut before = b' ';
+    for byte in text {
+        take(alloc, store, &mut stack, before, *byte)?;
+        before = *byte;
+    }
+    Ok(stack)
+}
+
+/// A term alone.
+fn alone(alloc: Global, id: TermId) -> Result<TermIds, AllocError> {
+    Ok(TermIds::from_vec(vec![in alloc; id]?))
+}
+
+/// The canonical form of the term of a text, alone.
+fn form(alloc: Global, store: &mut Store, text: &[u8]) -> Result<TermIds, CanonError> {
+    let mut stack = read(alloc, store, text)?;
+    let id = pop(&mut stack)?;
+    if !store.has(id) || !stack.is_empty() {
+        return Err(CanonError::Memory(AllocError));
+    }
+    let found = canon(alloc, store, id)?;
+    let ids = alone(alloc, found)?;
+    Ok(ids)
+}
+
+/// The test fails at any error.
+fn fails(_error: CanonError) -> Fail {
+    AllocError.into()
+}
+
+/// Whether all ids are in the store.
+fn has_all(store: &Store, ids: &[TermId]) -> bool
+    ensures { IsTrue result ↔ All (Has store.now) ids.now }
+{
+    ids.iter().all(|id| store.has(*id))
+}
+
+/// The canonical list of the formulas of a text.
+fn list(alloc: Global, store: &mut Store, text: &[u8]) -> Result<TermIds, CanonError> {
+    let ids = read(alloc, store, text)?;
+    if !has_all(store, ids.as_slice()) {
+        return Err(CanonError::Memory(AllocError));
+    }
+    let found = canon_list(alloc, store, ids.as_slice())?;
+    Ok(found)
+}
+
+/// Whether the terms were found that a text has.
+fn are(
+    alloc: Global,
+    store: &mut Store,
+    found: Result<TermIds, CanonError>,
+    wanted: &[u8],
+) -> Result<bool, AllocError> {
+    let wanted = read(alloc, store, wanted)?;
+    match found {
+        Ok(ids) => Ok(ids.as_slice() == wanted.as_slice()),
+        Err(_) => Ok(false),
+    }
+}
+
+/// Whether the term without a canonical form was told that a text has.
+fn is_fault(
+    alloc: Global,
+    store: &mut Store,
+    found: Result<TermIds, CanonError>,
+    wanted: &[u8],
+) -> Result<bool, AllocError> {
+    let wanted = read(alloc, store, wanted)?;
+    match found {
+        Err(CanonError::TooWide { term }) => Ok([term].as_slice() == wanted.as_slice()),
+        _ => Ok(false),
+    }
+}
+
+/// Terms and their canonical forms.
+const FORMS: [(&[u8], &[u8]); 63] = [
+    (b"3 x* 6 =", b"x 2 ="),
+    (b"7- 4 y* 6- x* 2+ <", b"3 x* 2- y* 2+ 3 <"),
+    (b"2 x* 3- <", b"x 2- <"),
+    (b"1- x* 4 =", b"x 4- ="),
+    (b"2- x* 4 y* 2+ 6 =", b"x 2- y* 2+ 3- ="),
+    (b"2 y* 4 x* =", b"2 x* 1- y* 2+ 0 ="),
+    (b"0 x <", b"1- x* 0 <"),
+    (b"x x <", b"t"),
+    (b"x 1 2+ x <", b"f"),
+    (b"2 1 1 2+ =", b"t"),
+    (b"x x 1 2+ =", b"f"),
+    (b"x 3 2+ y 1 2+ <", b"x 1- y* 2+ 2- <"),
+    (b"M x* 2305843009213693951 y* 2+ 5 <", b"M x* 2305843009213693951 y* 2+ 5 <"),
+    (b"x x 2+", b"2 x*"),
+    (b"y 3 x 2- y* 4+", b"x 1- y* 3 3+"),
+    (b"y 1- y* 2+", b"0"),
+    (b"0+", b"0"),
+    (b"x 1+", b"x"),
+    (b"y 1 2+ 2 x 1 2+ * 2+", b"2 x* y 3 3+"),
+    (b"1 x*", b"x"),
+    (b"0 x*", b"0"),
+    (b"2- 3 x* *", b"6- x*"),
+    (b"M 1- 1 3+", b"M"),
+    (b"1- M- *", b"M"),
+    (b"B 0 *", b"0"),
+    (b"x M- < !", b"1- x* 170141183460469231731687303715884105726 <"),
+    (b"t x M < ~", b"x M <"),
+    (b"x M < x M < ~", b"t"),
+    (b"x M < p p ?", b"p"),
+    (b"p!!", b"p"),
+    (b"x 1 = !", b"x 1 = !"),
+    (b"x 1- y* 2+ 3 < !", b"1- x* y 2+ 4- <"),
+    (b"q p 2& !", b"p! q! 2|"),
+    (b"p q! 2| !", b"q p! 2&"),
+    (b"p q ~ !", b"p q! ~"),
+    (b"p q! ~ !", b"p q ~"),
+    (b"p q X ? !", b"p q! X! ?"),
+    (b"q t p q 2& 3&", b"p q 2&"),
+    (b"p q f 2& 2&", b"f"),
+    (b"p x x < q 3|", b"t"),
+    (b"p f 2|", b"p"),
+    (b"q p 2| p 2&", b"p p q 2| 2&"),
+    (b"0&", b"t"),
+    (b"0|", b"f"),
+    (b"p! p 2&", b"p p! 2&"),
+    (b"x 0 < X 2&", b"X x 0 < 2&"),
+    (b"p! q ~", b"p q! ~"),
+    (b"q! p! ~", b"p q ~"),
+    (b"p p! ~", b"f"),
+    (b"p! p! ~", b"t"),
+    (b"p x x < ~", b"p"),
+    (b"f p ~", b"p!"),
+    (b"1 x < p ~", b"p 1- x* 1- < ~"),
+    (b"p! x y ?", b"p y x ?"),
+    (b"p! x y ? p y x ? 2+", b"2 p y x ? *"),
+    (b"p x x 2+ 2 x* ?", b"2 x*"),
+    (b"x x < x y ?", b"x"),
+    (b"p! t f ?", b"p!"),
+    (b"p f t ?", b"p!"),
+    (b"p t q ?", b"p q 2|"),
+    (b"p f q ?", b"q p! 2&"),
+    (b"p q t ?", b"q p! 2|"),
+    (b"p q f ?", b"p q 2&"),
+];
+
+/// Terms without a canonical form, and the first subterm that has none.
+const FAULTS: [(&[u8], &[u8]); 9] = [
+    (b"M 1 1- 3+", b"M 1 1- 3+"),
+    (b"x B <", b"B"),
+    (b"2 M x* *", b"2 M x* *"),
+    (b"M x* 1- x* <", b"M x* 1- x* <"),
+    (b"x M < !", b"x M < !"),
+    (b"t p x B < ?", b"B"),
+    (b"x M < ! B x < 2&", b"x M < !"),
+    (b"x M < p ~", b"x M < p ~"),
+    (b"x M < p q ?", b"x M < p q ?"),
+];
+
+#[test]
+fn terms_have_their_forms(rt: HostRuntime) -> Result<(), Fail> {
+    let alloc = rt.alloc();
+    let mut store = Store::new(alloc);
+    for (at, (text, wanted)) in FORMS.iter().enumerate() {
+        let found = form(alloc, &mut store, text);
+        assert!(rt; are(alloc, &mut store, found, wanted)?, "form {at}");
+    }
+    for (at, (text, wanted)) in FAULTS.iter().enumerate() {
+        let found = form(alloc, &mut store, text);
+        assert!(rt; is_fault(alloc, &mut store, found, wanted)?, "fault {at}");
+    }
+    Ok(())
+}
+
+/// Formulas and their canonical lists.
+const LISTS: [(&[u8], &[u8]); 18] = [
+    (b"5 2 x* < !", b"x 2 <"),
+    (b"3 x* 4 =", b"f"),
+    (b"q p 2& t p q 1|", b"p q"),
+    (b"p 1 0 < q", b"f"),
+    (b"x x <", b""),
+    (b"q p q", b"q p"),
+    (b"p p!", b"p p!"),
+    (b"p! x 2 < 2|", b"x 2 < p! 2|"),
+    (b"x y 1 2+ = x 3 < 2 y <", b"x 1- y* 2+ 1 = x 3 < 1- y* 2- <"),
+    (b"100 x <", b"1- x* 100- <"),
+    (b"3- x < x 4 <", b"1- x* 3 < x 4 <"),
+    (b"0 x < x 24 <", b"1- x* 0 < x 24 <"),
+    (b"p q X 2& 2&", b"p q X"),
+    (b"p f 2& q", b"f"),
+    (b"q p p ~ q!", b"q q!"),
+    (b"p p! ~ q", b"f"),
+    (b"p t q ? p", b"p q 2| p"),
+    (b"p f q ? p! q", b"q p!"),
+];
+
+/// Formulas of which one has no canonical form, and the first subterm of the first such that has none.
+const LIST_FAULTS: [(&[u8], &[u8]); 3] = [
+    (b"f x M < !", b"x M < !"),
+    (b"x M < p ~ x B <", b"x M < p ~"),
+    (b"p M x* 1- x* < B x <", b"M x* 1- x* <"),
+];
+
+#[test]
+fn lists_have_their_forms(rt: HostRuntime) -> Result<(), Fail> {
+    let alloc = rt.alloc();
+    let mut store = Store::new(alloc);
+    for (at, (text, wanted)) in LISTS.iter().enumerate() {
+        let found = list(alloc, &mut store, text);
+        assert!(rt; are(alloc, &mut store, found, wanted)?, "list {at}");
+    }
+    for (at, (text, wanted)) in LIST_FAULTS.iter().enumerate() {
+        let found = list(alloc, &mut store, text);
+        assert!(rt; is_fault(alloc, &mut store, found, wanted)?, "fault {at}");
+    }
+    Ok(())
+}
+
+/// The atoms that x is at most k, for k from 0 to the count, in order.
+fn bounds(
+    store: &mut Store,
+    x: TermId,
+    count: usize,
+    ids: &mut Vec<TermId>,
+) -> Result<(), AllocError> {
+    for at in 0..count {
+        let bound = kept(store, Term::Num(at as i128))?;
+        ids.push(kept(store, Term::Le(x, bound))?)?;
+    }
+    Ok(())
+}
+
+#[test]
+fn a_conjunction_of_many_parts(rt: HostRuntime) -> Result<(), Fail> {
+    let alloc = rt.alloc();
+    let mut store = Store::new(alloc);
+    let x = name(alloc, &mut store, b'x', Sort::Int)?;
+    let mut ids = Vec::new(alloc);
+    bounds(&mut store, x, 100_000, &mut ids)?;
+    let mut parts = ids.clone()?;
+    parts.reverse();
+    let all = kept(&mut store, Term::And(TermIds::from_vec(parts)))?;
+    let list = [ids[3], all, ids[7]];
+    assert!(rt; has_all(&store, &list));
+    let found = canon_list(alloc, &mut store, &list).map_err(fails)?;
+    assert_eq!(rt; found.len(), 100_000);
+    assert!(rt; found.as_slice()[0] == ids[3]);
+    assert!(rt; found.as_slice()[1] == ids[0]);
+    assert!(rt; found.as_slice()[4..] == ids[4..]);
+    Ok(())
+}
+
+/// The chain `And(.. And(And(p), p) .., p)` of some levels.
+fn chain(alloc: Global, store: &mut Store, levels: usize) -> Result<TermId, AllocError> {
+    let p = name(alloc, store, b'p', Sort::Bool)?;
+    let q = name(alloc, store, b'q', Sort::Bool)?;
+    let mut top = q;
+    for _ in 0..levels {
+        top = kept(store, Term::And(TermIds::from_vec(vec![in alloc; top, p]?)))?;
+    }
+    Ok(top)
+}
+
+#[test]
+fn a_chain_of_many_levels(rt: HostRuntime) -> Result<(), Fail> {
+    let alloc = rt.alloc();
+    let mut store = Store::new(alloc);
+    let top = chain(alloc, &mut store, 100_000)?;
+    let both = read(alloc, &mut store, b"p q 2&")?;
+    assert!(rt; store.has(top));
+    let found = canon(alloc, &mut store, top).map_err(fails)?;
+    assert!(rt; both.as_slice() == [found].as_slice());
+    Ok(())
+}
