@@ -1,1 +1,4 @@
 pub mod Answer
+pub mod Negation
+pub mod Opposite
+pub mod Junction

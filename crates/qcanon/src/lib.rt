@@ -3,3 +3,10 @@
 //! `canon` gives the canonical term, or the first subterm in postorder that has none; `canon_list` does the same for a list of
 //! formulas. The definition stands in `qlin`, and its laws in `qcanon_laws`.
 #![tactic(auto)]
+
+mod iff;
+mod ite;
+mod junction;
+mod negation;
+mod opposite;
+mod pair;
