@@ -81,8 +81,8 @@ child ts t o n s c = answers_shown ts (neg t) o (n.answers s (fixed t c))
 of_tree : (us : List Tree) (t x : Tree) (o : Option ℕ) → IsLawful t → t ≡ x → IsFormula us o → (IsLawful x → sort_of x ≡ Bool → IsCanonical x → Answers us (neg x) o) → IsNegation us t o
 of_tree us t x o l e f h = record { formula = f; answers = λ s c. subst (λ y. Answers us (neg y) o) (sym e) (h (subst IsLawful e l) (sym (ap sort_of e) ∙ s) (subst IsCanonical e (canonical_of t l c))) }
 
-pub is_bound : (us : List Tree) (t m k : Tree) (o : Option ℕ) → IsLawful t → t ≡ Le m k → IsFormula us o → (AtomShape m k → Answers us (neg_le m k) o) → IsNegation us t o
-is_bound us t m k o l e f h = of_tree us t (Le m k) o l e f (λ _ _ c. h c.2)
+pub is_bound : (us : List Tree) (m k : Tree) (o : Option ℕ) → IsLawful (Le m k) → IsFormula us o → (AtomShape m k → Answers us (neg_le m k) o) → IsNegation us (Le m k) o
+is_bound us m k o l f h = of_tree us (Le m k) (Le m k) o l refl f (λ _ _ c. h c.2)
 
 pub is_iff : (ts us : List Tree) (t a b : Tree) (q o : Option ℕ) → IsLawful t → t ≡ Iff a b → IsFormula us o → IsNegation ts b q → Answers us (option_map (Iff a) (shown ts q)) o → IsNegation us t o
 is_iff ts us t a b q o l e f n h = of_tree us t (Iff a b) o l e f

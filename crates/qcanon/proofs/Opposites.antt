@@ -1,7 +1,9 @@
 -- Parts with the other sign.
-use Rattle.std.proofs.Common.{◌≡◌, ℕ, ℤ, pos, negsuc, suc, zero, ◌<◌, List, [], ◌∷◌, ◌++◌, ◌+◌, take, length, get_or, refl, sym, ap, ◌∙◌, arith, true, false, Some, None, if◌then◌else◌}
+use Rattle.std.proofs.Common.{◌≡◌, ℕ, ℤ, pos, negsuc, suc, zero, ◌<◌, List, [], ◌∷◌, ◌++◌, ◌+◌, take, length, get_or, refl, sym, ap, subst, ◌∙◌, arith, true, false, Some, None, if◌then◌else◌}
 use Rattle.std.specs.Prelude.{◌+ℤ◌, ◌*ℤ◌, neg_ℤ}
-use Rattle.std.proofs.lemmas.Int.{ints}
+use Rattle.std.specs.Int.{w128}
+use Rattle.std.proofs.lemmas.Int.{ints, to_z-of_z}
+use mir.Val.{SFits, to_z, of_z}
 use Rattle.std.proofs.lemmas.List.{take_more}
 use Rattle.qterm.specs.Tree.{Tree, True, False, Var, Num, Sum, Scale, Le, Eq, Iff, Not, And, Or, Ite, none, more}
 use Rattle.qterm.specs.Store.{tree_at, trees_at}
@@ -75,14 +77,22 @@ sum_opposite p [] o r = part_plain p.0 p.1 o.0 ∙ part_opposite p.0 p.1 o.0 (bo
 sum_opposite p (q ∷ qs) o r = ap Sum (parts_opposite (p ∷ q ∷ qs) o r)
 
 -- ---- the negation of a canonical bound
-pub bound_is : (m : Tree) (c : ℤ) → AtomShape m (Num c) → in_range (neg_ℤ c +ℤ negsuc 0) ≡ true → neg_le m (Num c) ≡ Some (Le (opposite m) (Num (neg_ℤ c +ℤ negsuc 0)))
-bound_is m c s r =
-    let e : opposite m ≡ sum_term (terms (turned (s.first ∷ s.others)) (pos 0)) = ap opposite s.left ∙ sum_opposite s.first s.others s.monos s.parts_narrow in
-    neg_le_is m c s r ∙ (λ i. Some (Le (sym e i) (Num (neg_ℤ c +ℤ negsuc 0))))
+-- the number that is left of it, in the code's numbers
+pub limit_is : (n x y : ℤ) → SFits w128 y → SFits w128 x → y ≡ n → x ≡ neg_ℤ (to_z w128 (of_z w128 y)) +ℤ negsuc 0 → neg_ℤ n +ℤ negsuc 0 ≡ to_z w128 (of_z w128 x)
+limit_is n x y f g e l = ap (λ z. neg_ℤ z +ℤ negsuc 0) (sym e ∙ sym (to_z-of_z w128 y f)) ∙ sym l ∙ sym (to_z-of_z w128 x g)
 
-pub bound_past : (m : Tree) (c : ℤ) → in_range (neg_ℤ c +ℤ negsuc 0) ≡ false → neg_le m (Num c) ≡ None
-bound_past m c r = ap (λ b. if b then Some (Le (term (times (negsuc 0) (form m))) (Num (neg_ℤ c +ℤ negsuc 0))) else None) r
-
--- a canonical bound has a number on its right
-pub bound_number : (m k : Tree) → AtomShape m k → k ≡ Num (number_of k)
+-- it has a number on its right
+bound_number : (m k : Tree) → AtomShape m k → k ≡ Num (number_of k)
 bound_number m k s = s.right ∙ ap (λ t. Num (number_of t)) (sym s.right)
+
+pub bound_is : (m k : Tree) → AtomShape m k → in_range (neg_ℤ (number_of k) +ℤ negsuc 0) ≡ true → neg_le m k ≡ Some (Le (opposite m) (Num (neg_ℤ (number_of k) +ℤ negsuc 0)))
+bound_is m k s r =
+    let c = number_of k in
+    let e : k ≡ Num c = bound_number m k s in
+    let n : AtomShape m (Num c) = subst (AtomShape m) e s in
+    let o : opposite m ≡ sum_term (terms (turned (n.first ∷ n.others)) (pos 0)) = ap opposite n.left ∙ sum_opposite n.first n.others n.monos n.parts_narrow in
+    ap (neg_le m) e ∙ neg_le_is m c n r ∙ (λ i. Some (Le (sym o i) (Num (neg_ℤ c +ℤ negsuc 0))))
+
+pub bound_past : (m k : Tree) → AtomShape m k → in_range (neg_ℤ (number_of k) +ℤ negsuc 0) ≡ false → neg_le m k ≡ None
+bound_past m k s r =
+    ap (neg_le m) (bound_number m k s) ∙ ap (λ b. if b then Some (Le (term (times (negsuc 0) (form m))) (Num (neg_ℤ (number_of k) +ℤ negsuc 0))) else None) r

@@ -1,19 +1,20 @@
 //! The negation of canonical formulas.
 //!
-//! One table serves a whole walk, so that the negation of each distinct formula is found once.
+//! One table serves a whole walk, so that the negation of each distinct formula is found once. The negation of a canonical Iff
+//! or Ite is the same over the negated parts: the rules of Iff and Ite, which the definition goes through, give this back.
 ghost use Rattle.std.specs.Prelude.{◌≡◌, IfOk, OnOk, OnErr, MatchOption, All, Some, None, ℕ, List, cond, nat_eq, ◌+ℤ◌, neg_ℤ, negsuc};
 ghost use Rattle.std.specs.List.{AllZip};
 ghost use Rattle.std.specs.Option.{option_map};
 ghost use Rattle.std.specs.HashMap.{get};
-ghost use Rattle.qterm.specs.Tree.{Tree, Num, Le, Iff, Ite};
+ghost use Rattle.qterm.specs.Tree.{Tree, IsLawful, Num, Le, Iff, Ite};
 ghost use Rattle.qterm.specs.Store.{Has, HasSort, Shows, Extends, tree_at, trees_at};
 ghost use Rattle.qterm.specs.Kids.{kids, listed};
 ghost use Rattle.qterm.specs.declared.name.Sort.TheVariants.{Bool, Int};
 ghost use Rattle.qwalk.specs.Walk.{same_id};
+ghost use Rattle.qlin.specs.Order.{number_of};
 ghost use Rattle.qlin.specs.Linear.{and_then};
 ghost use Rattle.qlin.specs.Junction.{sorted, joined};
-ghost use Rattle.qlin.specs.Negation.{neg, neg_le};
-ghost use Rattle.qcanon_laws.proofs.Canonical.{AtomShape};
+ghost use Rattle.qlin.specs.Negation.{neg};
 ghost use Rattle.qcanon.specs.Answer.{IsOwn, Answers};
 ghost use Rattle.qcanon.specs.Negation.{IsFormula, IsNegation, AreNegations, shown, shown_all, all_of};
 
@@ -149,7 +150,7 @@ fn negation(
     }
 }
 
-/// The negation of a bound. One that is canonical has a number on its right.
+/// The negation of a bound: the opposite sum at most `-k - 1` for a sum at most `k`, if this number is in range.
 fn negated_bound(
     alloc: Global,
     store: &mut Store,
@@ -158,38 +159,28 @@ fn negated_bound(
 ) -> Result<Option<TermId>, AllocError>
     requires left { HasSort Int store.old left }
     requires right { HasSort Int store.old right }
-    ensures answers { IfOk result (λ o. AtomShape (tree_at store.old left) (tree_at store.old right) → Answers store.new (neg_le (tree_at store.old left) (tree_at store.old right)) o) }
-    ensures formula { IfOk result (IsFormula store.new) }
+    requires lawful { IsLawful (Le (tree_at store.old left) (tree_at store.old right)) }
+    ensures right { IfOk result (IsNegation store.new (Le (tree_at store.old left) (tree_at store.old right))) }
     ensures extends { Extends store.old store.new }
 {
-    match store.view(right) {
-        Term::Num(number) => {
-            let number = *number;
-            negated_at_most(alloc, store, left, number)
-        }
-        _ => Ok(None),
-    }
-}
-
-/// The negation of a sum of parts at most `k`: the opposite sum at most `-k - 1`, if this is in range.
-fn negated_at_most(
-    alloc: Global,
-    store: &mut Store,
-    left: TermId,
-    number: i128,
-) -> Result<Option<TermId>, AllocError>
-    requires left { HasSort Int store.old left }
-    ensures answers { IfOk result (λ o. AtomShape (tree_at store.old left) (Num number) → Answers store.new (neg_le (tree_at store.old left) (Num number)) o) }
-    ensures formula { IfOk result (IsFormula store.new) }
-    ensures extends { Extends store.old store.new }
-{
-    let limit = limit_below(number);
+    let limit = limit_below(number_of(store, right));
     if is_in_range(limit) {
         let sum = opposite(alloc, store, left)?;
         let found = at_most(store, sum, limit)?;
         Ok(Some(found))
     } else {
         Ok(None)
+    }
+}
+
+/// The number at the root of a term, or 0.
+fn number_of(store: &Store, id: TermId) -> i128
+    requires has { Has store.now id }
+    ensures { result ≡ number_of (tree_at store.now id) }
+{
+    match store.view(id) {
+        Term::Num(number) | Term::Scale(number, _) => *number,
+        _ => 0,
     }
 }
 

@@ -1,16 +1,14 @@
-use Rattle.std.proofs.Common.{◌∙◌, ◌∷◌, [], ap, subst, false, true}
+use Rattle.std.proofs.Common.{sym, IfOk, ◌∙◌, ◌∷◌, [], ap, subst, false, true}
 use Rattle.std.specs.List.{AllZip}
 use Rattle.std.specs.Option.{option_map}
-use Rattle.qterm.specs.Tree.{Iff, Ite}
-use Rattle.qterm.specs.Store.{grow, tree_at, trees_at}
+use Rattle.qterm.specs.Tree.{IsLawful, Iff, Ite}
+use Rattle.qterm.specs.Store.{Fits, grow, tree_at, trees_at}
 use Rattle.qterm.specs.Kids.{kids, listed}
 use Rattle.qlin.specs.Linear.{and_then}
 use Rattle.qlin.specs.Junction.{sorted, joined}
-use Rattle.qlin.specs.Negation.{neg_le}
-use Rattle.qcanon_laws.proofs.Canonical.{AtomShape}
 use Rattle.qcanon.specs.Answer.{Answers}
 use Rattle.qcanon.specs.Negation.{IsFormula, IsNegation, shown, shown_all}
-use Rattle.qcanon.proofs.Negated.{ok_both, children_formulas, second, third, is_bound, is_iff, is_ite, is_and, is_or}
+use Rattle.qcanon.proofs.Negated.{ok_both, children_formulas, second, third, is_iff, is_ite, is_and, is_or}
 use Rattle.qcanon.proofs.negation.negation.Goals as goal
 
 pub joined-requires : goal.joined-requires
@@ -19,15 +17,16 @@ joined-requires c = record { formulas = children_formulas c.args.store.now (list
 pub joined-requires-in-Or : goal.joined-requires-in-Or
 joined-requires-in-Or c = record { formulas = children_formulas c.args.store.now (listed (kids (tree_at c.args.store.now c.args.id))) c.args.outs.now c.requires.children }
 
+pub negated_bound-requires : goal.negated_bound-requires
+negated_bound-requires c =
+    let ts = c.args.store.now in
+    let fits = subst (Fits ts) c.in-Le.is c.view.ensures.fits in
+    record { left = fits.0; right = fits.1; lawful = subst IsLawful (c.view.ensures.tree ∙ ap (grow ts) c.in-Le.is) c.view.ensures.lawful }
+
 pub returns-in-Le-clause-right : goal.returns-in-Le-clause-right
 returns-in-Le-clause-right c =
     let ts = c.args.store.now in
-    let us = c.negated_bound.new.store in
-    let t = tree_at ts c.args.id in
-    let m = tree_at ts c.in-Le.left in
-    let k = tree_at ts c.in-Le.right in
-    ok_both (λ o. AtomShape m k → Answers us (neg_le m k) o) (IsFormula us) (IsNegation us t) c.negated_bound.result
-    (λ o a f. is_bound us t m k o c.view.ensures.lawful (c.view.ensures.tree ∙ ap (grow ts) c.in-Le.is) f a) c.negated_bound.ensures.answers c.negated_bound.ensures.formula
+    subst (λ t. IfOk c.negated_bound.result (IsNegation c.negated_bound.new.store t)) (sym (c.view.ensures.tree ∙ ap (grow ts) c.in-Le.is)) c.negated_bound.ensures.right
 
 pub returns-in-Iff-clause-right : goal.returns-in-Iff-clause-right
 returns-in-Iff-clause-right c =
