@@ -134,14 +134,14 @@ fn negation(
         }
         Term::Iff(left, _) => {
             let left = *left;
-            iff_over(store, left, outs[1])
+            negated_iff(store, left, outs[1])
         }
         Term::Not(inner) => Ok(Some(*inner)),
         Term::And(_) => joined(alloc, store, false, outs),
         Term::Or(_) => joined(alloc, store, true, outs),
         Term::Ite(condition, _, _) => {
             let condition = *condition;
-            ite_over(store, condition, outs[1], outs[2])
+            negated_ite(store, condition, outs[1], outs[2])
         }
         _ => {
             let found = store.intern(Term::Not(id))?;
@@ -203,7 +203,7 @@ fn at_most(store: &mut Store, left: TermId, number: i128) -> Result<TermId, Allo
 }
 
 /// Iff with its second side replaced by the side's negation.
-fn iff_over(
+fn negated_iff(
     store: &mut Store,
     left: TermId,
     right: Option<TermId>,
@@ -224,7 +224,7 @@ fn iff_over(
 }
 
 /// Ite with both branches replaced by their negations.
-fn ite_over(
+fn negated_ite(
     store: &mut Store,
     condition: TermId,
     then_term: Option<TermId>,

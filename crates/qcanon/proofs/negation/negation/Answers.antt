@@ -31,20 +31,20 @@ returns-in-Le-clause-right c =
 pub returns-in-Iff-clause-right : goal.returns-in-Iff-clause-right
 returns-in-Iff-clause-right c =
     let ts = c.args.store.now in
-    let us = c.iff_over.new.store in
+    let us = c.negated_iff.new.store in
     let t = tree_at ts c.args.id in
     let a = tree_at ts c.in-Iff.left in
     let b = tree_at ts c.in-Iff.field-1 in
     let q = c.index-outs-1.result in
     let e = c.view.ensures.tree ∙ ap (grow ts) c.in-Iff.is in
     let z = subst (λ x. AllZip (IsNegation ts) (listed (kids x)) c.args.outs.now) e c.requires.children in
-    ok_both (Answers us (option_map (Iff a) (shown ts q))) (IsFormula us) (IsNegation us t) c.iff_over.result
-    (λ o h f. is_iff ts us t a b q o c.view.ensures.lawful e f (second ts [] a b c.args.outs.now q z c.index-outs-1.is) h) c.iff_over.ensures.answers c.iff_over.ensures.formula
+    ok_both (Answers us (option_map (Iff a) (shown ts q))) (IsFormula us) (IsNegation us t) c.negated_iff.result
+    (λ o h f. is_iff ts us t a b q o c.view.ensures.lawful e f (second ts [] a b c.args.outs.now q z c.index-outs-1.is) h) c.negated_iff.ensures.answers c.negated_iff.ensures.formula
 
 pub returns-in-Ite-clause-right : goal.returns-in-Ite-clause-right
 returns-in-Ite-clause-right c =
     let ts = c.args.store.now in
-    let us = c.ite_over.new.store in
+    let us = c.negated_ite.new.store in
     let t = tree_at ts c.args.id in
     let d = tree_at ts c.in-Ite.condition in
     let a = tree_at ts c.in-Ite.field-1 in
@@ -53,8 +53,8 @@ returns-in-Ite-clause-right c =
     let q = c.index-outs-2.result in
     let e = c.view.ensures.tree ∙ ap (grow ts) c.in-Ite.is in
     let z = subst (λ x. AllZip (IsNegation ts) (listed (kids x)) c.args.outs.now) e c.requires.children in
-    ok_both (Answers us (and_then (shown ts p) (λ x. option_map (Ite d x) (shown ts q)))) (IsFormula us) (IsNegation us t) c.ite_over.result
-    (λ o h f. is_ite ts us t d a b p q o c.view.ensures.lawful e f (second ts (b ∷ []) d a c.args.outs.now p z c.index-outs-1-in-Ite.is) (third ts [] d a b c.args.outs.now q z c.index-outs-2.is) h) c.ite_over.ensures.answers c.ite_over.ensures.formula
+    ok_both (Answers us (and_then (shown ts p) (λ x. option_map (Ite d x) (shown ts q)))) (IsFormula us) (IsNegation us t) c.negated_ite.result
+    (λ o h f. is_ite ts us t d a b p q o c.view.ensures.lawful e f (second ts (b ∷ []) d a c.args.outs.now p z c.index-outs-1-in-Ite.is) (third ts [] d a b c.args.outs.now q z c.index-outs-2.is) h) c.negated_ite.ensures.answers c.negated_ite.ensures.formula
 
 pub returns-in-And-clause-right : goal.returns-in-And-clause-right
 returns-in-And-clause-right c =
