@@ -1,4 +1,6 @@
 pub mod Answer
+pub mod Junction
 pub mod List
-pub mod Stub
+pub mod Negation
+pub mod Opposite
 pub mod Walk

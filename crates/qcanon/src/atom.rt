@@ -10,7 +10,7 @@ ghost use Rattle.qlin.specs.Negation.{neg};
 ghost use Rattle.qlin.specs.Iff.{iff_of};
 ghost use Rattle.qlin.specs.Ite.{ite_of};
 ghost use Rattle.qcanon.specs.Answer.{IsOwn, Answers};
-ghost use Rattle.qcanon.specs.Stub.{AreNegations};
+ghost use Rattle.qcanon.specs.Negation.{AreNegations};
 
 use qterm::{Store, TermId};
 use std::alloc::{AllocError, Global};

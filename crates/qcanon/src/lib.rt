@@ -6,10 +6,13 @@
 
 mod atom;
 mod error;
+mod iff;
+mod ite;
 mod junction;
 mod linear;
 mod list;
 mod negation;
+mod opposite;
 mod pair;
 #[cfg(test)]
 mod tests;

@@ -9,14 +9,15 @@ ghost use Rattle.qlin.specs.Canon.{canon, at};
 ghost use Rattle.qlin.specs.Junction.{junction};
 ghost use Rattle.qcanon.specs.Answer.{IsOwn, Answers};
 ghost use Rattle.qcanon.specs.Walk.{over, IsFound, id_of, first_fault, answer_of, NamesFault};
-ghost use Rattle.qcanon.specs.Stub.{AreNegations};
+ghost use Rattle.qcanon.specs.Negation.{AreNegations};
 
 use crate::atom::{at_most, equal};
 use crate::error::CanonError;
 use crate::junction::junction;
 use crate::linear::{number, scale, sum};
 use crate::negation::{Negations, negate};
-use crate::pair::{iff, ite};
+use crate::iff::iff;
+use crate::ite::ite;
 use qterm::{Store, Term, TermId};
 use qwalk::{Fold, fold_terms};
 use std::alloc::{AllocError, Global};
