@@ -132,7 +132,11 @@ fn take(
         b'p' | b'q' => name(alloc, store, byte, Sort::Bool)?,
         b'X' => name(alloc, store, b'x', Sort::Bool)?,
         b'0'..=b'9' => {
-            let front = if before.is_ascii_digit() { pop_number(store, stack)? } else { 0 };
+            let front = if before.is_ascii_digit() {
+                pop_number(store, stack)?
+            } else {
+                0
+            };
             kept(store, longer(front, byte)?)?
         }
         _ => {
@@ -236,7 +240,10 @@ const FORMS: [(&[u8], &[u8]); 63] = [
     (b"2 1 1 2+ =", b"t"),
     (b"x x 1 2+ =", b"f"),
     (b"x 3 2+ y 1 2+ <", b"x 1- y* 2+ 2- <"),
-    (b"M x* 2305843009213693951 y* 2+ 5 <", b"M x* 2305843009213693951 y* 2+ 5 <"),
+    (
+        b"M x* 2305843009213693951 y* 2+ 5 <",
+        b"M x* 2305843009213693951 y* 2+ 5 <",
+    ),
     (b"x x 2+", b"2 x*"),
     (b"y 3 x 2- y* 4+", b"x 1- y* 3 3+"),
     (b"y 1- y* 2+", b"0"),
@@ -249,7 +256,10 @@ const FORMS: [(&[u8], &[u8]); 63] = [
     (b"M 1- 1 3+", b"M"),
     (b"1- M- *", b"M"),
     (b"B 0 *", b"0"),
-    (b"x M- < !", b"1- x* 170141183460469231731687303715884105726 <"),
+    (
+        b"x M- < !",
+        b"1- x* 170141183460469231731687303715884105726 <",
+    ),
     (b"t x M < ~", b"x M <"),
     (b"x M < x M < ~", b"t"),
     (b"x M < p p ?", b"p"),
@@ -327,7 +337,10 @@ const LISTS: [(&[u8], &[u8]); 18] = [
     (b"q p q", b"q p"),
     (b"p p!", b"p p!"),
     (b"p! x 2 < 2|", b"x 2 < p! 2|"),
-    (b"x y 1 2+ = x 3 < 2 y <", b"x 1- y* 2+ 1 = x 3 < 1- y* 2- <"),
+    (
+        b"x y 1 2+ = x 3 < 2 y <",
+        b"x 1- y* 2+ 1 = x 3 < 1- y* 2- <",
+    ),
     (b"100 x <", b"1- x* 100- <"),
     (b"3- x < x 4 <", b"1- x* 3 < x 4 <"),
     (b"0 x < x 24 <", b"1- x* 0 < x 24 <"),

@@ -13,11 +13,11 @@ ghost use Rattle.qcanon.specs.Negation.{AreNegations};
 
 use crate::atom::{at_most, equal};
 use crate::error::CanonError;
+use crate::iff::iff;
+use crate::ite::ite;
 use crate::junction::junction;
 use crate::linear::{number, scale, sum};
 use crate::negation::{Negations, negate};
-use crate::iff::iff;
-use crate::ite::ite;
 use qterm::{Store, Term, TermId};
 use qwalk::{Fold, fold_terms};
 use std::alloc::{AllocError, Global};
