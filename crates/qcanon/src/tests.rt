@@ -132,11 +132,7 @@ fn take(
         b'p' | b'q' => name(alloc, store, byte, Sort::Bool)?,
         b'X' => name(alloc, store, b'x', Sort::Bool)?,
         b'0'..=b'9' => {
-            let front = if before.is_ascii_digit() {
-                pop_number(store, stack)?
-            } else {
-                0
-            };
+            let front = if before.is_ascii_digit() { pop_number(store, stack)? } else { 0 };
             kept(store, longer(front, byte)?)?
         }
         _ => {
@@ -198,178 +194,143 @@ fn list(alloc: Global, store: &mut Store, text: &[u8]) -> Result<TermIds, CanonE
     Ok(found)
 }
 
-/// Whether the terms were found that a text has.
-fn are(
-    alloc: Global,
-    store: &mut Store,
-    found: Result<TermIds, CanonError>,
-    wanted: &[u8],
-) -> Result<bool, AllocError> {
-    let wanted = read(alloc, store, wanted)?;
+/// Whether these terms were found, or else this one was told.
+fn is_right(found: Result<TermIds, CanonError>, is_found: bool, wanted: &[TermId]) -> bool {
     match found {
-        Ok(ids) => Ok(ids.as_slice() == wanted.as_slice()),
-        Err(_) => Ok(false),
+        Ok(ids) => is_found && ids.as_slice() == wanted,
+        Err(error) => !is_found && is_told(&error, wanted),
     }
 }
 
-/// Whether the term without a canonical form was told that a text has.
-fn is_fault(
-    alloc: Global,
-    store: &mut Store,
-    found: Result<TermIds, CanonError>,
-    wanted: &[u8],
-) -> Result<bool, AllocError> {
-    let wanted = read(alloc, store, wanted)?;
-    match found {
-        Err(CanonError::TooWide { term }) => Ok([term].as_slice() == wanted.as_slice()),
-        _ => Ok(false),
+/// Whether this term was told as the one without a canonical form.
+fn is_told(error: &CanonError, wanted: &[TermId]) -> bool {
+    match error {
+        CanonError::TooWide { term } => wanted.len() == 1 && wanted[0] == *term,
+        CanonError::Memory(_) => false,
     }
 }
 
-/// Terms and their canonical forms.
-const FORMS: [(&[u8], &[u8]); 63] = [
-    (b"3 x* 6 =", b"x 2 ="),
-    (b"7- 4 y* 6- x* 2+ <", b"3 x* 2- y* 2+ 3 <"),
-    (b"2 x* 3- <", b"x 2- <"),
-    (b"1- x* 4 =", b"x 4- ="),
-    (b"2- x* 4 y* 2+ 6 =", b"x 2- y* 2+ 3- ="),
-    (b"2 y* 4 x* =", b"2 x* 1- y* 2+ 0 ="),
-    (b"0 x <", b"1- x* 0 <"),
-    (b"x x <", b"t"),
-    (b"x 1 2+ x <", b"f"),
-    (b"2 1 1 2+ =", b"t"),
-    (b"x x 1 2+ =", b"f"),
-    (b"x 3 2+ y 1 2+ <", b"x 1- y* 2+ 2- <"),
-    (
-        b"M x* 2305843009213693951 y* 2+ 5 <",
-        b"M x* 2305843009213693951 y* 2+ 5 <",
-    ),
-    (b"x x 2+", b"2 x*"),
-    (b"y 3 x 2- y* 4+", b"x 1- y* 3 3+"),
-    (b"y 1- y* 2+", b"0"),
-    (b"0+", b"0"),
-    (b"x 1+", b"x"),
-    (b"y 1 2+ 2 x 1 2+ * 2+", b"2 x* y 3 3+"),
-    (b"1 x*", b"x"),
-    (b"0 x*", b"0"),
-    (b"2- 3 x* *", b"6- x*"),
-    (b"M 1- 1 3+", b"M"),
-    (b"1- M- *", b"M"),
-    (b"B 0 *", b"0"),
-    (
-        b"x M- < !",
-        b"1- x* 170141183460469231731687303715884105726 <",
-    ),
-    (b"t x M < ~", b"x M <"),
-    (b"x M < x M < ~", b"t"),
-    (b"x M < p p ?", b"p"),
-    (b"p!!", b"p"),
-    (b"x 1 = !", b"x 1 = !"),
-    (b"x 1- y* 2+ 3 < !", b"1- x* y 2+ 4- <"),
-    (b"q p 2& !", b"p! q! 2|"),
-    (b"p q! 2| !", b"q p! 2&"),
-    (b"p q ~ !", b"p q! ~"),
-    (b"p q! ~ !", b"p q ~"),
-    (b"p q X ? !", b"p q! X! ?"),
-    (b"q t p q 2& 3&", b"p q 2&"),
-    (b"p q f 2& 2&", b"f"),
-    (b"p x x < q 3|", b"t"),
-    (b"p f 2|", b"p"),
-    (b"q p 2| p 2&", b"p p q 2| 2&"),
-    (b"0&", b"t"),
-    (b"0|", b"f"),
-    (b"p! p 2&", b"p p! 2&"),
-    (b"x 0 < X 2&", b"X x 0 < 2&"),
-    (b"p! q ~", b"p q! ~"),
-    (b"q! p! ~", b"p q ~"),
-    (b"p p! ~", b"f"),
-    (b"p! p! ~", b"t"),
-    (b"p x x < ~", b"p"),
-    (b"f p ~", b"p!"),
-    (b"1 x < p ~", b"p 1- x* 1- < ~"),
-    (b"p! x y ?", b"p y x ?"),
-    (b"p! x y ? p y x ? 2+", b"2 p y x ? *"),
-    (b"p x x 2+ 2 x* ?", b"2 x*"),
-    (b"x x < x y ?", b"x"),
-    (b"p! t f ?", b"p!"),
-    (b"p f t ?", b"p!"),
-    (b"p t q ?", b"p q 2|"),
-    (b"p f q ?", b"q p! 2&"),
-    (b"p q t ?", b"q p! 2|"),
-    (b"p q f ?", b"p q 2&"),
-];
-
-/// Terms without a canonical form, and the first subterm that has none.
-const FAULTS: [(&[u8], &[u8]); 9] = [
-    (b"M 1 1- 3+", b"M 1 1- 3+"),
-    (b"x B <", b"B"),
-    (b"2 M x* *", b"2 M x* *"),
-    (b"M x* 1- x* <", b"M x* 1- x* <"),
-    (b"x M < !", b"x M < !"),
-    (b"t p x B < ?", b"B"),
-    (b"x M < ! B x < 2&", b"x M < !"),
-    (b"x M < p ~", b"x M < p ~"),
-    (b"x M < p q ?", b"x M < p q ?"),
+/// Terms, whether they have a canonical form, and this form or the first subterm that has none.
+const FORMS: [(&[u8], bool, &[u8]); 72] = [
+    (b"3 x* 6 =", true, b"x 2 ="),
+    (b"7- 4 y* 6- x* 2+ <", true, b"3 x* 2- y* 2+ 3 <"),
+    (b"2 x* 3- <", true, b"x 2- <"),
+    (b"1- x* 4 =", true, b"x 4- ="),
+    (b"2- x* 4 y* 2+ 6 =", true, b"x 2- y* 2+ 3- ="),
+    (b"2 y* 4 x* =", true, b"2 x* 1- y* 2+ 0 ="),
+    (b"0 x <", true, b"1- x* 0 <"),
+    (b"x x <", true, b"t"),
+    (b"x 1 2+ x <", true, b"f"),
+    (b"2 1 1 2+ =", true, b"t"),
+    (b"x x 1 2+ =", true, b"f"),
+    (b"x 3 2+ y 1 2+ <", true, b"x 1- y* 2+ 2- <"),
+    (b"M x* 2305843009213693951 y* 2+ 5 <", true, b"M x* 2305843009213693951 y* 2+ 5 <"),
+    (b"x x 2+", true, b"2 x*"),
+    (b"y 3 x 2- y* 4+", true, b"x 1- y* 3 3+"),
+    (b"y 1- y* 2+", true, b"0"),
+    (b"0+", true, b"0"),
+    (b"x 1+", true, b"x"),
+    (b"y 1 2+ 2 x 1 2+ * 2+", true, b"2 x* y 3 3+"),
+    (b"1 x*", true, b"x"),
+    (b"0 x*", true, b"0"),
+    (b"2- 3 x* *", true, b"6- x*"),
+    (b"M 1- 1 3+", true, b"M"),
+    (b"1- M- *", true, b"M"),
+    (b"B 0 *", true, b"0"),
+    (b"x M- < !", true, b"1- x* 170141183460469231731687303715884105726 <"),
+    (b"t x M < ~", true, b"x M <"),
+    (b"x M < x M < ~", true, b"t"),
+    (b"x M < p p ?", true, b"p"),
+    (b"p!!", true, b"p"),
+    (b"x 1 = !", true, b"x 1 = !"),
+    (b"x 1- y* 2+ 3 < !", true, b"1- x* y 2+ 4- <"),
+    (b"q p 2& !", true, b"p! q! 2|"),
+    (b"p q! 2| !", true, b"q p! 2&"),
+    (b"p q ~ !", true, b"p q! ~"),
+    (b"p q! ~ !", true, b"p q ~"),
+    (b"p q X ? !", true, b"p q! X! ?"),
+    (b"q t p q 2& 3&", true, b"p q 2&"),
+    (b"p q f 2& 2&", true, b"f"),
+    (b"p x x < q 3|", true, b"t"),
+    (b"p f 2|", true, b"p"),
+    (b"q p 2| p 2&", true, b"p p q 2| 2&"),
+    (b"0&", true, b"t"),
+    (b"0|", true, b"f"),
+    (b"p! p 2&", true, b"p p! 2&"),
+    (b"x 0 < X 2&", true, b"X x 0 < 2&"),
+    (b"p! q ~", true, b"p q! ~"),
+    (b"q! p! ~", true, b"p q ~"),
+    (b"p p! ~", true, b"f"),
+    (b"p! p! ~", true, b"t"),
+    (b"p x x < ~", true, b"p"),
+    (b"f p ~", true, b"p!"),
+    (b"1 x < p ~", true, b"p 1- x* 1- < ~"),
+    (b"p! x y ?", true, b"p y x ?"),
+    (b"p! x y ? p y x ? 2+", true, b"2 p y x ? *"),
+    (b"p x x 2+ 2 x* ?", true, b"2 x*"),
+    (b"x x < x y ?", true, b"x"),
+    (b"p! t f ?", true, b"p!"),
+    (b"p f t ?", true, b"p!"),
+    (b"p t q ?", true, b"p q 2|"),
+    (b"p f q ?", true, b"q p! 2&"),
+    (b"p q t ?", true, b"q p! 2|"),
+    (b"p q f ?", true, b"p q 2&"),
+    (b"M 1 1- 3+", false, b"M 1 1- 3+"),
+    (b"x B <", false, b"B"),
+    (b"2 M x* *", false, b"2 M x* *"),
+    (b"M x* 1- x* <", false, b"M x* 1- x* <"),
+    (b"x M < !", false, b"x M < !"),
+    (b"t p x B < ?", false, b"B"),
+    (b"x M < ! B x < 2&", false, b"x M < !"),
+    (b"x M < p ~", false, b"x M < p ~"),
+    (b"x M < p q ?", false, b"x M < p q ?"),
 ];
 
 #[test]
 fn terms_have_their_forms(rt: HostRuntime) -> Result<(), Fail> {
     let alloc = rt.alloc();
     let mut store = Store::new(alloc);
-    for (at, (text, wanted)) in FORMS.iter().enumerate() {
+    for (at, (text, is_found, wanted)) in FORMS.iter().enumerate() {
+        let wanted = read(alloc, &mut store, wanted)?;
         let found = form(alloc, &mut store, text);
-        assert!(rt; are(alloc, &mut store, found, wanted)?, "form {at}");
-    }
-    for (at, (text, wanted)) in FAULTS.iter().enumerate() {
-        let found = form(alloc, &mut store, text);
-        assert!(rt; is_fault(alloc, &mut store, found, wanted)?, "fault {at}");
+        assert!(rt; is_right(found, *is_found, wanted.as_slice()), "row {at}");
     }
     Ok(())
 }
 
-/// Formulas and their canonical lists.
-const LISTS: [(&[u8], &[u8]); 18] = [
-    (b"5 2 x* < !", b"x 2 <"),
-    (b"3 x* 4 =", b"f"),
-    (b"q p 2& t p q 1|", b"p q"),
-    (b"p 1 0 < q", b"f"),
-    (b"x x <", b""),
-    (b"q p q", b"q p"),
-    (b"p p!", b"p p!"),
-    (b"p! x 2 < 2|", b"x 2 < p! 2|"),
-    (
-        b"x y 1 2+ = x 3 < 2 y <",
-        b"x 1- y* 2+ 1 = x 3 < 1- y* 2- <",
-    ),
-    (b"100 x <", b"1- x* 100- <"),
-    (b"3- x < x 4 <", b"1- x* 3 < x 4 <"),
-    (b"0 x < x 24 <", b"1- x* 0 < x 24 <"),
-    (b"p q X 2& 2&", b"p q X"),
-    (b"p f 2& q", b"f"),
-    (b"q p p ~ q!", b"q q!"),
-    (b"p p! ~ q", b"f"),
-    (b"p t q ? p", b"p q 2| p"),
-    (b"p f q ? p! q", b"q p!"),
-];
-
-/// Formulas of which one has no canonical form, and the first subterm of the first such that has none.
-const LIST_FAULTS: [(&[u8], &[u8]); 3] = [
-    (b"f x M < !", b"x M < !"),
-    (b"x M < p ~ x B <", b"x M < p ~"),
-    (b"p M x* 1- x* < B x <", b"M x* 1- x* <"),
+/// Formulas, whether they have a canonical list, and this list or the first subterm that has no canonical form.
+const LISTS: [(&[u8], bool, &[u8]); 21] = [
+    (b"5 2 x* < !", true, b"x 2 <"),
+    (b"3 x* 4 =", true, b"f"),
+    (b"q p 2& t p q 1|", true, b"p q"),
+    (b"p 1 0 < q", true, b"f"),
+    (b"x x <", true, b""),
+    (b"q p q", true, b"q p"),
+    (b"p p!", true, b"p p!"),
+    (b"p! x 2 < 2|", true, b"x 2 < p! 2|"),
+    (b"x y 1 2+ = x 3 < 2 y <", true, b"x 1- y* 2+ 1 = x 3 < 1- y* 2- <"),
+    (b"100 x <", true, b"1- x* 100- <"),
+    (b"3- x < x 4 <", true, b"1- x* 3 < x 4 <"),
+    (b"0 x < x 24 <", true, b"1- x* 0 < x 24 <"),
+    (b"p q X 2& 2&", true, b"p q X"),
+    (b"p f 2& q", true, b"f"),
+    (b"q p p ~ q!", true, b"q q!"),
+    (b"p p! ~ q", true, b"f"),
+    (b"p t q ? p", true, b"p q 2| p"),
+    (b"p f q ? p! q", true, b"q p!"),
+    (b"f x M < !", false, b"x M < !"),
+    (b"x M < p ~ x B <", false, b"x M < p ~"),
+    (b"p M x* 1- x* < B x <", false, b"M x* 1- x* <"),
 ];
 
 #[test]
 fn lists_have_their_forms(rt: HostRuntime) -> Result<(), Fail> {
     let alloc = rt.alloc();
     let mut store = Store::new(alloc);
-    for (at, (text, wanted)) in LISTS.iter().enumerate() {
+    for (at, (text, is_found, wanted)) in LISTS.iter().enumerate() {
+        let wanted = read(alloc, &mut store, wanted)?;
         let found = list(alloc, &mut store, text);
-        assert!(rt; are(alloc, &mut store, found, wanted)?, "list {at}");
-    }
-    for (at, (text, wanted)) in LIST_FAULTS.iter().enumerate() {
-        let found = list(alloc, &mut store, text);
-        assert!(rt; is_fault(alloc, &mut store, found, wanted)?, "fault {at}");
+        assert!(rt; is_right(found, *is_found, wanted.as_slice()), "row {at}");
     }
     Ok(())
 }
@@ -398,13 +359,11 @@ fn a_conjunction_of_many_parts(rt: HostRuntime) -> Result<(), Fail> {
     let mut parts = ids.clone()?;
     parts.reverse();
     let all = kept(&mut store, Term::And(TermIds::from_vec(parts)))?;
-    let list = [ids[3], all, ids[7]];
-    assert!(rt; has_all(&store, &list));
-    let found = canon_list(alloc, &mut store, &list).map_err(fails)?;
-    assert_eq!(rt; found.len(), 100_000);
-    assert!(rt; found.as_slice()[0] == ids[3]);
-    assert!(rt; found.as_slice()[1] == ids[0]);
-    assert!(rt; found.as_slice()[4..] == ids[4..]);
+    let mut list = vec![in alloc; all]?;
+    list.extend_from_slice(ids.as_slice())?;
+    assert!(rt; has_all(&store, list.as_slice()));
+    let found = canon_list(alloc, &mut store, list.as_slice()).map_err(fails)?;
+    assert!(rt; found.as_slice() == ids.as_slice());
     Ok(())
 }
 
