@@ -3,3 +3,5 @@
 //! `canon` gives the canonical term, or the first subterm in postorder that has none; `canon_list` does the same for a list of
 //! formulas. The definition stands in `qlin`, and its laws in `qcanon_laws`.
 #![tactic(auto)]
+
+mod junction;
