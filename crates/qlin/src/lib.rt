@@ -16,5 +16,6 @@ mod tests;
 mod write;
 
 pub use lin::{Lin, LinError, LinParts};
+pub use number::in_range;
 pub use order::compare;
 pub use sort::sort_terms;
