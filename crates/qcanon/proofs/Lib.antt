@@ -1,1 +1,3 @@
 pub mod Junctions
+pub mod Narrow
+pub mod Sums

@@ -4,4 +4,7 @@
 //! formulas. The definition stands in `qlin`, and its laws in `qcanon_laws`.
 #![tactic(auto)]
 
+mod atom;
+mod form;
 mod junction;
+mod sum;

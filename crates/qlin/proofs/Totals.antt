@@ -37,11 +37,11 @@ total_part m (pos zero) n ps = counted_none (same m n) (total m ps)
 total_part m (pos (suc k)) n ps = refl
 total_part m (negsuc k) n ps = refl
 
-counted_sum : (b : Bool) (x a z : ℤ) → counted b (x +ℤ a) +ℤ z ≡ counted b a +ℤ (counted b x +ℤ z)
+pub counted_sum : (b : Bool) (x a z : ℤ) → counted b (x +ℤ a) +ℤ z ≡ counted b a +ℤ (counted b x +ℤ z)
 counted_sum true x a z = omega (arith, ints)
 counted_sum false x a z = omega (arith, ints)
 
-swapped : (x y z : ℤ) → x +ℤ (y +ℤ z) ≡ y +ℤ (x +ℤ z)
+pub swapped : (x y z : ℤ) → x +ℤ (y +ℤ z) ≡ y +ℤ (x +ℤ z)
 swapped x y z = omega (arith, ints)
 
 pub total_put : (m : Tree) (a : ℤ) (n : Tree) (ps : Parts) → total m (put a n ps) ≡ counted (same m n) a +ℤ total m ps
@@ -62,14 +62,14 @@ total_puts m [] ps = omega (arith, ints)
 total_puts m (q ∷ qs) ps =
     total_puts m qs (put q.0 q.1 ps) ∙ ap (λ z. total m qs +ℤ z) (total_put m q.0 q.1 ps) ∙ regrouped (total m qs) (counted (same m q.1) q.0) (total m ps)
 
-none_added : (z : ℤ) → z +ℤ pos 0 ≡ z
+pub none_added : (z : ℤ) → z +ℤ pos 0 ≡ z
 none_added z = omega (arith, ints)
 
 pub total_alone : (m : Tree) (qs : Parts) → total m (puts qs []) ≡ total m qs
 total_alone m qs = total_puts m qs [] ∙ none_added (total m qs)
 
 -- ---- parts in order
-none_before : (z : ℤ) → pos 0 +ℤ z ≡ z
+pub none_before : (z : ℤ) → pos 0 +ℤ z ≡ z
 none_before z = omega (arith, ints)
 
 pub total_above : (m : Tree) (ps : Parts) → IsAbove m ps → total m ps ≡ pos 0
