@@ -4,42 +4,42 @@ use Rattle.std.proofs.lemmas.List.{take_more}
 use Rattle.qterm.specs.declared.term.Term.{Term}
 use Rattle.qterm.specs.declared.term.Term.TheVariants as term
 use Rattle.qterm.specs.declared.name.Sort.TheVariants.{Bool}
-use Rattle.qterm.specs.Tree.{Tree, Trees, True, False, none, more}
-use Rattle.qterm.specs.Store.{HasSort, tree_at, trees_at, grow}
+use Rattle.qterm.specs.Tree.{Tree, Trees, True, False, Var, Num, Sum, Scale, Le, Eq, Iff, Not, And, Or, Ite, none, more}
+use Rattle.qterm.specs.Store.{HasSort, tree_at, trees_at, grow, Fits}
 use Rattle.qterm.proofs.Alls.{All-head, All-tail, All-cons, All-nil}
-use Rattle.qlin.specs.Order.{same}
+use Rattle.qlin.specs.Order.{same, tree_cmp}
 use Rattle.qlin.specs.Atom.{truth_tree}
-use Rattle.qlin.specs.Junction.{has_constant, members, joined, packed, junction, gathered, insert, inserts, sorted}
+use Rattle.qlin.specs.Junction.{has_constant, members, joined, packed, junction, gathered, inserts, sorted}
 use Rattle.qcanon.specs.Junction.{joined_lists, flat, AreMembers, IsGathered}
 
-pub trees-append : (ts : List Tree) (is js : List ℕ) → trees_at ts (is ++ js) ≡ joined_lists (trees_at ts is) (trees_at ts js)
-trees-append ts [] js = refl
-trees-append ts (i ∷ is) js = ap (more (tree_at ts i)) (trees-append ts is js)
+pub trees_append : (ts : List Tree) (is js : List ℕ) → trees_at ts (is ++ js) ≡ joined_lists (trees_at ts is) (trees_at ts js)
+trees_append ts [] js = refl
+trees_append ts (i ∷ is) js = ap (more (tree_at ts i)) (trees_append ts is js)
 
-All-append : (P : ℕ → Type 0) (is js : List ℕ) → All P is → All P js → All P (is ++ js)
-All-append P [] js a b = b
-All-append P (i ∷ is) js a b = All-cons P i (is ++ js) (All-head P i is a) (All-append P is js (All-tail P i is a) b)
+all_append : (P : ℕ → Type 0) (is js : List ℕ) → All P is → All P js → All P (is ++ js)
+all_append P [] js a b = b
+all_append P (i ∷ is) js a b = All-cons P i (is ++ js) (All-head P i is a) (all_append P is js (All-tail P i is a) b)
 
-joined-none : (us : Trees) → us ≡ joined_lists us none
-joined-none none = refl
-joined-none (more u us) = ap (more u) (joined-none us)
+joined_none : (us : Trees) → us ≡ joined_lists us none
+joined_none none = refl
+joined_none (more u us) = ap (more u) (joined_none us)
 
 false≢true : false ≡ true → ⊥
 false≢true e = true≢false (sym e)
 
 pub at_true : (ts : List Tree) (k : Truth) (i : ℕ) (old : List ℕ) → tree_at ts i ≡ True → AreMembers ts k i old (not k) old
-at_true ts true i old e = record { absorbs = ap (λ t. same t False) (sym e); added = λ h. joined-none (trees_at ts old) ∙ ap (λ t. joined_lists (trees_at ts old) (members true t)) (sym e); have = λ h a. a }
+at_true ts true i old e = record { absorbs = ap (λ t. same t False) (sym e); added = λ h. joined_none (trees_at ts old) ∙ ap (λ t. joined_lists (trees_at ts old) (members true t)) (sym e); have = λ h a. a }
 at_true ts false i old e = record { absorbs = ap (λ t. same t True) (sym e); added = λ h. absurd (true≢false h); have = λ h a. a }
 
 pub at_false : (ts : List Tree) (k : Truth) (i : ℕ) (old : List ℕ) → tree_at ts i ≡ False → AreMembers ts k i old k old
 at_false ts true i old e = record { absorbs = ap (λ t. same t False) (sym e); added = λ h. absurd (true≢false h); have = λ h a. a }
-at_false ts false i old e = record { absorbs = ap (λ t. same t True) (sym e); added = λ h. joined-none (trees_at ts old) ∙ ap (λ t. joined_lists (trees_at ts old) (members false t)) (sym e); have = λ h a. a }
+at_false ts false i old e = record { absorbs = ap (λ t. same t True) (sym e); added = λ h. joined_none (trees_at ts old) ∙ ap (λ t. joined_lists (trees_at ts old) (members false t)) (sym e); have = λ h a. a }
 
 more_members : (ts : List Tree) (k : Truth) (i : ℕ) (old is new : List ℕ) → trees_at ts is ≡ members k (tree_at ts i) → false ≡ same (tree_at ts i) (truth_tree (not k)) → All (HasSort Bool ts) is → new ≡ old ++ is → AreMembers ts k i old false new
 more_members ts k i old is new m s h e = record {
   absorbs = s;
-  added = λ q. ap (trees_at ts) e ∙ trees-append ts old is ∙ ap (joined_lists (trees_at ts old)) m;
-  have = λ q a. subst (All (HasSort Bool ts)) (sym e) (All-append (HasSort Bool ts) old is a h);
+  added = λ q. ap (trees_at ts) e ∙ trees_append ts old is ∙ ap (joined_lists (trees_at ts old)) m;
+  have = λ q a. subst (All (HasSort Bool ts)) (sym e) (all_append (HasSort Bool ts) old is a h);
 }
 
 pub at_members : (ts : List Tree) (k : Truth) (i : ℕ) (old is new : List ℕ) → tree_at ts i ≡ joined k (trees_at ts is) → All (HasSort Bool ts) is → new ≡ old ++ is → AreMembers ts k i old false new
@@ -68,17 +68,17 @@ at_other ts k i t old new e a b c d h n =
     more_members ts k i old (i ∷ []) new ((λ x. more (e x) none) ∙ p.alone ∙ ap (members k) (sym e)) (p.apart ∙ ap (λ x. same x (truth_tree (not k))) (sym e)) (All-cons (HasSort Bool ts) i [] h (All-nil (HasSort Bool ts))) n
 
 -- ---- gathering
-joined-assoc : (ts us vs : Trees) → joined_lists (joined_lists ts us) vs ≡ joined_lists ts (joined_lists us vs)
-joined-assoc none us vs = refl
-joined-assoc (more t ts) us vs = ap (more t) (joined-assoc ts us vs)
+joined_assoc : (ts us vs : Trees) → joined_lists (joined_lists ts us) vs ≡ joined_lists ts (joined_lists us vs)
+joined_assoc none us vs = refl
+joined_assoc (more t ts) us vs = ap (more t) (joined_assoc ts us vs)
 
-inserts-joined : (ts us vs : Trees) → inserts (joined_lists ts us) vs ≡ inserts ts (inserts us vs)
-inserts-joined none us vs = refl
-inserts-joined (more t ts) us vs = ap (insert t) (inserts-joined ts us vs)
+inserts_joined : (ts us vs : Trees) → inserts (joined_lists ts us) vs ≡ inserts ts (inserts us vs)
+inserts_joined none us vs = refl
+inserts_joined (more t ts) us vs = ap (Rattle.qlin.specs.Junction.insert t) (inserts_joined ts us vs)
 
 pub gathered_is : (k : Truth) (ts : Trees) → sorted (flat k ts) ≡ gathered k ts
 gathered_is k none = refl
-gathered_is k (more t ts) = inserts-joined (members k t) (flat k ts) none ∙ ap (inserts (members k t)) (gathered_is k ts)
+gathered_is k (more t ts) = inserts_joined (members k t) (flat k ts) none ∙ ap (inserts (members k t)) (gathered_is k ts)
 
 pub junction_is : (k : Truth) (ts : List Tree) (is vs zs : List ℕ) → IsGathered ts k is vs → trees_at ts zs ≡ sorted (trees_at ts vs) → packed k (trees_at ts zs) ≡ junction k (trees_at ts is)
 junction_is k ts is vs zs g e =
@@ -88,21 +88,21 @@ pub junction_absorbed : (k : Truth) (ts : Trees) → has_constant (not k) ts ≡
 junction_absorbed k ts e = sym (ap (λ b. Rattle.std.proofs.Common.cond b (truth_tree (not k)) (packed k (gathered k ts))) e)
 
 -- a prefix of the list
-flat-joined : (k : Truth) (ts us : Trees) → flat k (joined_lists ts us) ≡ joined_lists (flat k ts) (flat k us)
-flat-joined k none us = refl
-flat-joined k (more t ts) us = ap (joined_lists (members k t)) (flat-joined k ts us) ∙ sym (joined-assoc (members k t) (flat k ts) (flat k us))
+flat_joined : (k : Truth) (ts us : Trees) → flat k (joined_lists ts us) ≡ joined_lists (flat k ts) (flat k us)
+flat_joined k none us = refl
+flat_joined k (more t ts) us = ap (joined_lists (members k t)) (flat_joined k ts us) ∙ sym (joined_assoc (members k t) (flat k ts) (flat k us))
 
-constant-joined : (c : Truth) (ts us : Trees) → has_constant c ts ≡ false → has_constant c (joined_lists ts us) ≡ has_constant c us
-constant-joined c none us e = refl
-constant-joined c (more t ts) us e = by (same t (truth_tree c)) (constant-joined c ts us) e
+constant_joined : (c : Truth) (ts us : Trees) → has_constant c ts ≡ false → has_constant c (joined_lists ts us) ≡ has_constant c us
+constant_joined c none us e = refl
+constant_joined c (more t ts) us e = by (same t (truth_tree c)) (constant_joined c ts us) e
   where
     by : (b : Truth) → (has_constant c ts ≡ false → has_constant c (joined_lists ts us) ≡ has_constant c us) → (b || has_constant c ts) ≡ false → (b || has_constant c (joined_lists ts us)) ≡ has_constant c us
     by true ih e = absurd (true≢false e)
     by false ih e = ih e
 
-constant-later : (c : Truth) (ts us : Trees) → has_constant c us ≡ true → has_constant c (joined_lists ts us) ≡ true
-constant-later c none us e = e
-constant-later c (more t ts) us e = ap (λ b. same t (truth_tree c) || b) (constant-later c ts us e) ∙ end (same t (truth_tree c))
+constant_later : (c : Truth) (ts us : Trees) → has_constant c us ≡ true → has_constant c (joined_lists ts us) ≡ true
+constant_later c none us e = e
+constant_later c (more t ts) us e = ap (λ b. same t (truth_tree c) || b) (constant_later c ts us e) ∙ end (same t (truth_tree c))
   where
     end : (b : Truth) → (b || true) ≡ true
     end true = refl
@@ -115,9 +115,9 @@ pub goes_on : (ts : List Tree) (k : Truth) (is : List ℕ) (i : ℕ) (old new : 
 goes_on ts k is i old new b f g m =
     let one : same (tree_at ts i) (truth_tree (not k)) ≡ false = sym m.absorbs ∙ f in
     record {
-      free = ap (has_constant (not k)) (trees-append ts is (i ∷ [])) ∙ constant-joined (not k) (trees_at ts is) (more (tree_at ts i) none) g.free ∙ ap (λ c. c || false) one;
-      all = m.added f ∙ ap (λ us. joined_lists us (members k (tree_at ts i))) g.all ∙ ap (joined_lists (flat k (trees_at ts is))) (joined-none (members k (tree_at ts i)))
-          ∙ sym (ap (flat k) (trees-append ts is (i ∷ [])) ∙ flat-joined k (trees_at ts is) (more (tree_at ts i) none));
+      free = ap (has_constant (not k)) (trees_append ts is (i ∷ [])) ∙ constant_joined (not k) (trees_at ts is) (more (tree_at ts i) none) g.free ∙ ap (λ c. c || false) one;
+      all = m.added f ∙ ap (λ us. joined_lists us (members k (tree_at ts i))) g.all ∙ ap (joined_lists (flat k (trees_at ts is))) (joined_none (members k (tree_at ts i)))
+          ∙ sym (ap (flat k) (trees_append ts is (i ∷ [])) ∙ flat_joined k (trees_at ts is) (more (tree_at ts i) none));
       have = m.have f g.have;
     }
 

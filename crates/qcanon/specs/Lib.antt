@@ -3,4 +3,5 @@ pub mod Junction
 pub mod List
 pub mod Negation
 pub mod Opposite
+pub mod Sums
 pub mod Walk

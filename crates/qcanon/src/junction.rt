@@ -1,6 +1,6 @@
 //! And and Or of canonical formulas.
 ghost use Rattle.std.specs.Prelude.{◌≡◌, IfOk, OnOk, MatchOption, All, true, false, not, ◌++◌};
-ghost use Rattle.qterm.specs.Store.{Has, HasSort, tree_at, trees_at, Shows, Extends};
+ghost use Rattle.qterm.specs.Store.{HasSort, Shows, Extends, tree_at, trees_at};
 ghost use Rattle.qterm.specs.declared.name.Sort.TheVariants.{Bool};
 ghost use Rattle.qlin.specs.Atom.{truth_tree};
 ghost use Rattle.qlin.specs.Junction.{has_constant, junction, members, packed};

@@ -6,14 +6,15 @@
 
 mod atom;
 mod error;
+mod form;
 mod iff;
 mod ite;
 mod junction;
-mod linear;
 mod list;
 mod negation;
 mod opposite;
 mod pair;
+mod sum;
 #[cfg(test)]
 mod tests;
 mod walk;

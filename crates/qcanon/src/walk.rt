@@ -11,13 +11,13 @@ ghost use Rattle.qcanon.specs.Answer.{IsOwn, Answers};
 ghost use Rattle.qcanon.specs.Walk.{over, IsFound, id_of, first_fault, answer_of, NamesFault};
 ghost use Rattle.qcanon.specs.Negation.{AreNegations};
 
-use crate::atom::{at_most, equal};
+use crate::atom::{at_most, equal, number, scale};
 use crate::error::CanonError;
 use crate::iff::iff;
 use crate::ite::ite;
 use crate::junction::junction;
-use crate::linear::{number, scale, sum};
 use crate::negation::{Negations, negate};
+use crate::sum::sum;
 use qterm::{Store, Term, TermId};
 use qwalk::{Fold, fold_terms};
 use std::alloc::{AllocError, Global};

@@ -13,7 +13,8 @@ use Rattle.qlin.specs.Form.{Form, Parts, zero_form, plus, times, if_in_range, pa
 use Rattle.qlin.specs.Number.{in_range, floor}
 use Rattle.qlin.specs.Atom.{content, divided, le_zero, difference, le_of}
 use Rattle.qlin.specs.Lin.{IsAbove, IsRising}
-use Rattle.qlin.proofs.Merges.{puts_empty, both}
+use Rattle.qlin.proofs.Merges.{puts_empty}
+use Rattle.qlin.proofs.Ranges.{in_range_less, floor_in_range, divided_narrow}
 use Rattle.qcanon_laws.proofs.Numbers.{floor_exact, gcd_is}
 use Rattle.qcanon_laws.proofs.Forms.{DividesAll, content_divides, content_positive, AreNonzero}
 use Rattle.qcanon_laws.proofs.Linear.{IsMono, AllParts, form_term, keeps_range}
@@ -57,24 +58,6 @@ divided_rising (p ∷ ps) g h d r = (divided_positive p.0 g h d.0 r.0, divided_a
 pub divided_monos : (ps : Parts) (g : ℕ) → AllParts IsMono ps → AllParts IsMono (divided ps g)
 divided_monos [] g h = tt
 divided_monos (p ∷ ps) g h = (h.0, divided_monos ps g h.1)
-
--- numbers get no greater
-floor_less : (z : ℤ) (g : ℕ) → 0 < g → nat_abs (floor z g) ≤ nat_abs z
-floor_less (pos n) g h = div-le_self n g
-floor_less (negsuc n) g h = let l = div-le_self n g in omega (arith, l)
-
-pub in_range_less : (y z : ℤ) → nat_abs y ≤ nat_abs z → in_range z ≡ true → in_range y ≡ true
-in_range_less y z h r = lt-ltb (nat_abs y) _ (below (nat_abs y) (nat_abs z) h (ltb-true (nat_abs z) _ r))
-  where
-    below : (a b : ℕ) → a ≤ b → b < 170141183460469231731687303715884105728 → a < 170141183460469231731687303715884105728
-    below a b h k = omega (arith, h, k)
-
-pub floor_in_range : (z : ℤ) (g : ℕ) → 0 < g → in_range z ≡ true → in_range (floor z g) ≡ true
-floor_in_range z g h r = in_range_less (floor z g) z (floor_less z g h) r
-
-pub divided_narrow : (ps : Parts) (g : ℕ) → 0 < g → parts_in_range ps ≡ true → parts_in_range (divided ps g) ≡ true
-divided_narrow [] g h n = refl
-divided_narrow (p ∷ ps) g h n = let b = both (in_range p.0) (parts_in_range ps) n in λ i. floor_in_range p.0 g h b.0 i && divided_narrow ps g h b.1 i
 
 rising_nonzero : (ps : Parts) → IsRising ps → AreNonzero ps
 rising_nonzero [] r = tt

@@ -9,3 +9,4 @@ pub mod Atoms
 pub mod Canonical
 pub mod Negations
 pub mod Closed
+pub mod Readable

@@ -1,14 +1,15 @@
 //! Linear forms over the terms of a store.
-ghost use Rattle.std.specs.Prelude.{◌≡◌, ◌<◌, IfOk, pos, length, List, [], ◌∷◌};
+ghost use Rattle.std.specs.Prelude.{◌≡◌, ◌<◌, IfOk, pos, negsuc, length, List, [], ◌∷◌, true, ◌&&◌};
 ghost use Rattle.qterm.specs.Store.{HasSort};
 ghost use Rattle.qterm.specs.declared.name.Sort.TheVariants.{Int};
 ghost use Rattle.qterm.specs.Tree.{Tree};
-ghost use Rattle.qlin.specs.Form.{plus, times};
+ghost use Rattle.qlin.specs.Number.{in_range};
+ghost use Rattle.qlin.specs.Form.{plus, times, parts_in_range};
 ghost use Rattle.qlin.specs.Lin.{form_at, IsForm, IsFormIfFits, IsTightened, AreNonzero};
 ghost use Rattle.qlin.specs.Merge.{IsQuotient};
 
-use crate::merge::{content, divided_parts, merged, scaled_parts};
-use crate::number::{floor, product, sum};
+use crate::merge::{are_in_range, content, divided_parts, merged, scaled_parts};
+use crate::number::{floor, in_range, negated, product, sum};
 use qterm::{Store, TermId};
 use std::alloc::{AllocError, Global};
 use std::marker::Model;
@@ -135,6 +136,26 @@ impl Lin {
         }
     }
 
+    /// The form with all signs changed. Its numbers are in the range of the canonical form, and so are the new ones.
+    pub fn turned(&self, alloc: Global) -> Result<Lin, AllocError>
+        requires parts_range { parts_in_range self.now.parts ≡ true }
+        requires range { in_range self.now.constant ≡ true }
+        ensures { IfOk result (λ l. (ts : List Tree) → IsForm ts self.now → IsForm ts l × (form_at ts l ≡ times (negsuc 0) (form_at ts self.now))) }
+    {
+        match scaled_parts(alloc, self.parts(), -1) {
+            Ok(items) => Ok(Lin::from_parts(items, negated(self.constant))),
+            Err(LinError::Wide) => unreachable!(),
+            Err(LinError::Memory(error)) => Err(error),
+        }
+    }
+
+    /// Whether all numbers of the form are in the range of the canonical form.
+    pub fn is_in_range(&self) -> bool
+        ensures { result ≡ (parts_in_range self.now.parts && in_range self.now.constant) }
+    {
+        are_in_range(self.parts()) && in_range(self.constant)
+    }
+
     /// For the atom that the form is at most the bound: both sides divided by the greatest common divisor of the form's
     /// numbers, the bound rounded down.
     pub fn tighten(&self, alloc: Global, bound: i128) -> Result<(Lin, i128), AllocError>
@@ -146,6 +167,7 @@ impl Lin {
         let (tight, by) = self.quotient(alloc)?;
         Ok((tight, floor(bound, by)))
     }
+
     /// The parts divided by the greatest common divisor of their numbers, without the constant, and the divisor.
     pub(crate) fn quotient(&self, alloc: Global) -> Result<(Lin, u128), AllocError>
         requires some_part { 0 < length self.now.parts }
