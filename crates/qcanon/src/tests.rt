@@ -132,7 +132,11 @@ fn take(
         b'p' | b'q' => name(alloc, store, byte, Sort::Bool)?,
         b'X' => name(alloc, store, b'x', Sort::Bool)?,
         b'0'..=b'9' => {
-            let front = if before.is_ascii_digit() { pop_number(store, stack)? } else { 0 };
+            let front = if before.is_ascii_digit() {
+                pop_number(store, stack)?
+            } else {
+                0
+            };
             kept(store, longer(front, byte)?)?
         }
         _ => {
@@ -224,7 +228,11 @@ const FORMS: [(&[u8], bool, &[u8]); 72] = [
     (b"2 1 1 2+ =", true, b"t"),
     (b"x x 1 2+ =", true, b"f"),
     (b"x 3 2+ y 1 2+ <", true, b"x 1- y* 2+ 2- <"),
-    (b"M x* 2305843009213693951 y* 2+ 5 <", true, b"M x* 2305843009213693951 y* 2+ 5 <"),
+    (
+        b"M x* 2305843009213693951 y* 2+ 5 <",
+        true,
+        b"M x* 2305843009213693951 y* 2+ 5 <",
+    ),
     (b"x x 2+", true, b"2 x*"),
     (b"y 3 x 2- y* 4+", true, b"x 1- y* 3 3+"),
     (b"y 1- y* 2+", true, b"0"),
@@ -237,7 +245,11 @@ const FORMS: [(&[u8], bool, &[u8]); 72] = [
     (b"M 1- 1 3+", true, b"M"),
     (b"1- M- *", true, b"M"),
     (b"B 0 *", true, b"0"),
-    (b"x M- < !", true, b"1- x* 170141183460469231731687303715884105726 <"),
+    (
+        b"x M- < !",
+        true,
+        b"1- x* 170141183460469231731687303715884105726 <",
+    ),
     (b"t x M < ~", true, b"x M <"),
     (b"x M < x M < ~", true, b"t"),
     (b"x M < p p ?", true, b"p"),
@@ -308,7 +320,11 @@ const LISTS: [(&[u8], bool, &[u8]); 21] = [
     (b"q p q", true, b"q p"),
     (b"p p!", true, b"p p!"),
     (b"p! x 2 < 2|", true, b"x 2 < p! 2|"),
-    (b"x y 1 2+ = x 3 < 2 y <", true, b"x 1- y* 2+ 1 = x 3 < 1- y* 2- <"),
+    (
+        b"x y 1 2+ = x 3 < 2 y <",
+        true,
+        b"x 1- y* 2+ 1 = x 3 < 1- y* 2- <",
+    ),
     (b"100 x <", true, b"1- x* 100- <"),
     (b"3- x < x 4 <", true, b"1- x* 3 < x 4 <"),
     (b"0 x < x 24 <", true, b"1- x* 0 < x 24 <"),
