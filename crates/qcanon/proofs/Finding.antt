@@ -87,7 +87,7 @@ found_kids ts (more u us) (Faulty j ∷ os) h f = cc
 found_own : (ts : List Tree) (t : Tree) (j : ℕ) → IsLawful t → canon t ≡ Ok (tree_at ts j) → IsOwn ts j
 found_own ts t j l e = its_own t (tree_at ts j) l e
 
-found_sort : (ts : List Tree) (t : Tree) (j : ℕ) → IsLawful t → canon t ≡ Ok (tree_at ts j) → sort_of (tree_at ts j) ≡ sort_of t
+pub found_sort : (ts : List Tree) (t : Tree) (j : ℕ) → IsLawful t → canon t ≡ Ok (tree_at ts j) → sort_of (tree_at ts j) ≡ sort_of t
 found_sort ts t j l e = (subst (Finds (Good (sort_of t))) e (canon_good t l)).1
 
 -- they are their own canonical forms

@@ -6,3 +6,4 @@ pub mod Narrow
 pub mod Sums
 pub mod Finding
 pub mod Listing
+pub mod Sorted

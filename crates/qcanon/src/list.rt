@@ -2,7 +2,8 @@
 ghost use Rattle.std.specs.Prelude.{◌≡◌, ◌++◌, All, IfOk, IfErr, OnOk, [], true};
 ghost use Rattle.indexmap.specs.IndexSet.{insert_all};
 ghost use Rattle.qterm.specs.Tree.{False};
-ghost use Rattle.qterm.specs.Store.{Has, Extends, tree_at, trees_of};
+ghost use Rattle.qterm.specs.Store.{Has, HasSort, Extends, tree_at, trees_of};
+ghost use Rattle.qterm.specs.declared.name.Sort.TheVariants.{Bool};
 ghost use Rattle.qterm.specs.Kids.{listed};
 ghost use Rattle.qwalk.specs.Walk.{same_id};
 ghost use Rattle.qlin.specs.Order.{same};
@@ -27,9 +28,11 @@ pub fn canon_list(alloc: Global, store: &mut Store, list: &[TermId]) -> Result<T
     requires has { All (Has store.old) list.now }
     ensures has { IfOk result (λ ids. All (Has store.new) ids) }
     ensures listed { IfOk result (λ ids. canon_list (trees_of store.old list.now) ≡ Ok (trees_of store.new ids)) }
+    ensures formulas { All (HasSort Bool store.old) list.now → IfOk result (λ ids. All (HasSort Bool store.new) ids) }
     ensures too_wide { IfErr result (NamesFault store.new (canon_list (trees_of store.old list.now))) }
     ensures extends { Extends store.old store.new }
 {
+    store.is_lawful();
     let mut forms = Forms::new(alloc);
     let outs = fold_all(alloc, store, &mut forms, list)?;
     if let Some(term) = first_fault(outs.as_slice()) {

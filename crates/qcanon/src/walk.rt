@@ -1,7 +1,7 @@
 //! The canonical form of a term, by a walk that asks each distinct subterm once, its children before it.
 ghost use Rattle.std.specs.Prelude.{◌≡◌, List, map, All, IfOk, IfErr, None, Some};
 ghost use Rattle.std.specs.List.{AllZip};
-ghost use Rattle.qterm.specs.Tree.{Tree};
+ghost use Rattle.qterm.specs.Tree.{Tree, sort_of};
 ghost use Rattle.qterm.specs.Store.{Has, HasSort, Fits, Extends, tree_at, trees_at, grow};
 ghost use Rattle.qterm.specs.declared.name.Sort.TheVariants.{Bool};
 ghost use Rattle.qterm.specs.Kids.{kids, listed, ids};
@@ -29,9 +29,11 @@ use std::alloc::{AllocError, Global};
 pub fn canon(alloc: Global, store: &mut Store, id: TermId) -> Result<TermId, CanonError>
     requires has { Has store.old id }
     ensures canonical { IfOk result (λ c. Has store.new c × (canon (tree_at store.old id) ≡ Ok (tree_at store.new c))) }
+    ensures sort { IfOk result (λ c. sort_of (tree_at store.new c) ≡ sort_of (tree_at store.old id)) }
     ensures too_wide { IfErr result (NamesFault store.new (canon (tree_at store.old id))) }
     ensures extends { Extends store.old store.new }
 {
+    store.is_lawful();
     let mut forms = Forms::new(alloc);
     let found = fold_terms(alloc, store, &mut forms, id)?;
     answer(&found)
