@@ -164,6 +164,7 @@ fn term_over(alloc: Global, store: &Store, id: TermId, outs: &[Outcome]) -> Resu
 }
 
 /// The canonical form of a term whose children are canonical, or nothing where there is none.
+#[tactic(auto, using(crate::proofs::Negated::AreNegations_extends))]
 fn canon_over(
     alloc: Global,
     store: &mut Store,
