@@ -43,12 +43,7 @@ pub(crate) fn scale(
 }
 
 /// The form of a number times a canonical term, where each number of it is in range.
-fn scaled(
-    alloc: Global,
-    store: &Store,
-    by: i128,
-    id: TermId,
-) -> Result<Option<Lin>, AllocError>
+fn scaled(alloc: Global, store: &Store, by: i128, id: TermId) -> Result<Option<Lin>, AllocError>
     requires int { HasSort Int store.now id }
     requires own { IsOwn store.now id }
     ensures { IfOk result (GivesForm store.now (if_in_range (times by (form (tree_at store.now id))))) }

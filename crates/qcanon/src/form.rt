@@ -32,11 +32,7 @@ pub(crate) fn narrow(form: Lin) -> Option<Lin>
     ensures gives { (ts : List Tree) → IsForm ts form → GivesForm ts (if_in_range (form_at ts form)) result }
     ensures narrow { IfSome result IsNarrow }
 {
-    if form.is_in_range() {
-        Some(form)
-    } else {
-        None
-    }
+    if form.is_in_range() { Some(form) } else { None }
 }
 
 /// The term of a form, if there is one.

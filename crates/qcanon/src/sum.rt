@@ -96,10 +96,7 @@ fn add_parts(
 }
 
 /// Adds a part to the number of its monomial. It tells whether this is still in range.
-fn add_part(
-    numbers: &mut IndexMap<TermId, i128>,
-    part: (i128, TermId),
-) -> Result<bool, AllocError>
+fn add_part(numbers: &mut IndexMap<TermId, i128>, part: (i128, TermId)) -> Result<bool, AllocError>
     ensures { IfOk result (λ b. IsPartAdded numbers.old.entries part b numbers.new.entries) }
 {
     match sum_in_range(number_of(numbers, part.1), part.0) {
@@ -126,11 +123,7 @@ fn sum_in_range(left: i128, right: i128) -> Option<i128>
     ensures { MatchOption result (in_range (left +ℤ right) ≡ false) (λ sum. (sum ≡ left +ℤ right) × (in_range sum ≡ true)) }
 {
     match left.checked_add(right) {
-        Some(sum) => if in_range(sum) {
-            Some(sum)
-        } else {
-            None
-        },
+        Some(sum) => if in_range(sum) { Some(sum) } else { None },
         None => None,
     }
 }
