@@ -1,6 +1,6 @@
 #!/usr/bin/env bash
 # Times the clause solver alone, as the program `clause_bench` runs it: a line a set of clauses, with the answer, the lemmas
-# learnt, the seconds and the peak memory in MB.
+# learnt and the seconds.
 #
 # usage: time_solver.sh [SECONDS] [SEEDS]
 #
@@ -38,7 +38,6 @@ measure() {
     shift
     python3 "$here/dimacs.py" "$@" >"$scratch/set" || exit 2
     python3 - "$program" "$seconds" "$scratch/set" "$name" <<'PYTHON'
-import resource
 import subprocess
 import sys
 import time
@@ -53,8 +52,7 @@ try:
 except subprocess.TimeoutExpired:
     spent = f"> {seconds} s"
     answer = "-"
-peak = resource.getrusage(resource.RUSAGE_CHILDREN).ru_maxrss / 1024
-print(f"{name:<24} {answer:<24} {spent:>10} {peak:9.1f} MB", flush=True)
+print(f"{name:<24} {answer:<24} {spent:>10}", flush=True)
 PYTHON
 }
 
