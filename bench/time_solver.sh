@@ -1,6 +1,6 @@
 #!/usr/bin/env bash
 # Times the clause solver alone, as the program `clause_bench` runs it: a line a set of clauses, with the answer, the lemmas
-# learnt and the seconds.
+# learnt, the seconds, and those of them that a processor was at it.
 #
 # usage: time_solver.sh [SECONDS] [SEEDS]
 #
@@ -38,6 +38,7 @@ measure() {
     shift
     python3 "$here/dimacs.py" "$@" >"$scratch/set" || exit 2
     python3 - "$program" "$seconds" "$scratch/set" "$name" <<'PYTHON'
+import resource
 import subprocess
 import sys
 import time
@@ -52,7 +53,8 @@ try:
 except subprocess.TimeoutExpired:
     spent = f"> {seconds} s"
     answer = "-"
-print(f"{name:<24} {answer:<24} {spent:>10}", flush=True)
+busy = resource.getrusage(resource.RUSAGE_CHILDREN).ru_utime
+print(f"{name:<24} {answer:<24} {spent:>10} {busy:9.2f} s", flush=True)
 PYTHON
 }
 
