@@ -7,6 +7,8 @@ mod compute;
 mod error;
 mod evaluate;
 mod model;
+#[cfg(test)]
+mod tests;
 
 pub use error::EvalError;
 pub use evaluate::eval;
