@@ -1,0 +1,226 @@
+-- What a form is read as: a strategy, or the first fault. The grammar and the list of faults say what that is; this is
+-- the same once more, as the reader finds it.
+use Rattle.std.specs.Prelude.{ℕ, zero, suc, ◌-◌, ◌^◌, ◌&&◌, not, if◌then◌else◌, nat_le, ℤ, List, [], ◌∷◌, length, Option, None, Some, Result, Ok, Err}
+use Rattle.sexp_read.specs.Lexical.{is_simple_symbol}
+use Rattle.sexp_read.specs.declared.sexp.AtomKind.{AtomKind}
+use Rattle.sexp_read.specs.declared.sexp.AtomKind.TheVariants as kind
+use Rattle.strat_text.specs.declared.error.StratError.{StratError}
+use Rattle.strat_text.specs.declared.error.StratError.TheVariants.{UnknownReducer, UnknownProbe, UnknownParam, BadStrategy}
+use Rattle.strat_text.specs.declared.words.Head.{Head}
+use Rattle.strat_text.specs.declared.words.Head.TheVariants as head
+use Rattle.strat_text.specs.declared.words.Operator.{Operator}
+use Rattle.strat_text.specs.declared.words.Operator.TheVariants as operator
+use Rattle.strat_text.specs.declared.probe.ProbeExpr.{ProbeExpr}
+use Rattle.strat_text.specs.declared.probe.ProbeExpr.TheVariants as probe
+use Rattle.strat_text.specs.declared.strategy.ParamKey.{ParamKey}
+use Rattle.strat_text.specs.declared.strategy.Strategy.{Strategy}
+use Rattle.strat_text.specs.declared.strategy.Strategy.TheVariants as strategy
+use Rattle.strat_text.specs.declared.strategy.TheConstants.{BRANCHES, TURNS}
+use Rattle.strat_text.specs.Form.{Form, atom, list, Forms, none, more, place_of, numeral_of, numeral_value}
+use Rattle.strat_text.specs.Words.{head_in, operator_in, probe_named, key_of}
+use Rattle.strat_text.specs.Number.{number_of, minus_of, positive, is_wide, is_within}
+use Rattle.strat_text.specs.Grammar.{Names, is_known}
+
+-- the first fault of two readings, or what both give
+abbrev pub and_then : {A B : Type 0} → Result A StratError → (A → Result B StratError) → Result B StratError
+and_then (Ok a) next = next a
+and_then (Err e) next = Err e
+
+-- one more in front
+abbrev pub in_front : {A : Type 0} → Result A StratError → Result (List A) StratError → Result (List A) StratError
+in_front first rest = and_then first (λ a. and_then rest (λ more. Ok (a ∷ more)))
+
+-- the form ends here
+abbrev pub only : {A : Type 0} → ℕ → Forms → A → Result A StratError
+only at none a = Ok a
+only at (more form forms) a = Err (BadStrategy at)
+
+-- a number in its range; another one is told at a place
+abbrev pub probe_number : ℕ → Option ℤ → Result ProbeExpr StratError
+probe_number at None = Err (BadStrategy at)
+probe_number at (Some z) = if is_wide z then Err (BadStrategy at) else Ok (probe.Num z)
+
+-- the probe that a word is
+abbrev pub probe_word : ℕ → Option ProbeExpr → Result ProbeExpr StratError
+probe_word at None = Err (UnknownProbe at)
+probe_word at (Some p) = Ok p
+
+-- an atom as a probe
+abbrev pub probe_atom : AtomKind → List ℕ → ℕ → Result ProbeExpr StratError
+probe_atom kind.Symbol text at = probe_word at (probe_named text)
+probe_atom kind.Quoted text at = Err (BadStrategy at)
+probe_atom kind.Numeral text at = probe_number at (positive (numeral_value kind.Numeral text))
+probe_atom kind.Decimal text at = Err (BadStrategy at)
+probe_atom kind.Bits text at = Err (BadStrategy at)
+probe_atom kind.Text text at = Err (BadStrategy at)
+probe_atom kind.Keyword text at = Err (BadStrategy at)
+
+-- a form of one probe, of two, of one or more
+abbrev pub one_probe : ℕ → (ProbeExpr → ProbeExpr) → List ProbeExpr → Result ProbeExpr StratError
+one_probe at make [] = Err (BadStrategy at)
+one_probe at make (a ∷ []) = Ok (make a)
+one_probe at make (a ∷ b ∷ rest) = Err (BadStrategy at)
+
+abbrev pub two_probes : ℕ → (ProbeExpr → ProbeExpr → ProbeExpr) → List ProbeExpr → Result ProbeExpr StratError
+two_probes at make [] = Err (BadStrategy at)
+two_probes at make (a ∷ []) = Err (BadStrategy at)
+two_probes at make (a ∷ b ∷ []) = Ok (make a b)
+two_probes at make (a ∷ b ∷ c ∷ rest) = Err (BadStrategy at)
+
+abbrev pub some_probes : ℕ → (List ProbeExpr → ProbeExpr) → List ProbeExpr → Result ProbeExpr StratError
+some_probes at make [] = Err (BadStrategy at)
+some_probes at make (a ∷ rest) = Ok (make (a ∷ rest))
+
+-- a form of a probe by its word, from its arguments and what they are read as
+abbrev pub probe_form : ℕ → Forms → Result (List ProbeExpr) StratError → Option Operator → Result ProbeExpr StratError
+probe_form at args parts None = Err (BadStrategy at)
+probe_form at args parts (Some operator.Minus) = probe_number at (minus_of args)
+probe_form at args parts (Some operator.Lt) = and_then parts (two_probes at probe.Lt)
+probe_form at args parts (Some operator.Le) = and_then parts (two_probes at probe.Le)
+probe_form at args parts (Some operator.Gt) = and_then parts (two_probes at probe.Gt)
+probe_form at args parts (Some operator.Ge) = and_then parts (two_probes at probe.Ge)
+probe_form at args parts (Some operator.Eq) = and_then parts (two_probes at probe.Eq)
+probe_form at args parts (Some operator.And) = and_then parts (some_probes at probe.And)
+probe_form at args parts (Some operator.Or) = and_then parts (some_probes at probe.Or)
+probe_form at args parts (Some operator.Not) = and_then parts (one_probe at probe.Not)
+
+unfoldable mutual
+  -- a form as a probe
+  pub read_probe : Form → Result ProbeExpr StratError
+  read_probe (atom is text at) = probe_atom is text at
+  read_probe (list none at) = Err (BadStrategy at)
+  read_probe (list (more first args) at) = probe_form at args (read_probes args) (operator_in first)
+
+  -- each of the forms as a probe
+  pub read_probes : Forms → Result (List ProbeExpr) StratError
+  read_probes none = Ok []
+  read_probes (more form forms) = in_front (read_probe form) (read_probes forms)
+
+-- one more setting in front; none where one has another shape
+abbrev pub with_setting : Option (ParamKey × ℤ) → Option (List (ParamKey × ℤ)) → Option (List (ParamKey × ℤ))
+with_setting None rest = None
+with_setting (Some setting) None = None
+with_setting (Some setting) (Some rest) = Some (setting ∷ rest)
+
+-- the value of a parameter
+abbrev pub value_read : ℕ → ParamKey → Option ℤ → Result (Option (ParamKey × ℤ)) StratError
+value_read at key None = Ok None
+value_read at key (Some z) = if is_within key z then Ok (Some (key, z)) else Err (BadStrategy at)
+
+-- the parameter that a keyword is
+abbrev pub key_read : ℕ → Option ParamKey → Result (Option ParamKey) StratError
+key_read at None = Err (UnknownParam at)
+key_read at (Some key) = Ok (Some key)
+
+-- an atom as a parameter; none where it is no keyword
+abbrev pub key_atom : AtomKind → List ℕ → ℕ → Result (Option ParamKey) StratError
+key_atom kind.Symbol text at = Ok None
+key_atom kind.Quoted text at = Ok None
+key_atom kind.Numeral text at = Ok None
+key_atom kind.Decimal text at = Ok None
+key_atom kind.Bits text at = Ok None
+key_atom kind.Text text at = Ok None
+key_atom kind.Keyword text at = key_read at (key_of text)
+
+-- a form as a parameter
+abbrev pub read_key : Form → Result (Option ParamKey) StratError
+read_key (atom is text at) = key_atom is text at
+read_key (list items at) = Ok None
+
+-- a form as the value of a parameter, where there is one
+abbrev pub read_value : Form → Option ParamKey → Result (Option (ParamKey × ℤ)) StratError
+read_value form None = Ok None
+read_value form (Some key) = value_read (place_of form) key (number_of form)
+
+-- the forms as settings; none where one has another shape, which is told last
+unfoldable pub read_settings : Forms → Result (Option (List (ParamKey × ℤ))) StratError
+read_settings none = Ok (Some [])
+read_settings (more key none) = and_then (read_key key) (λ _. Ok None)
+read_settings (more key (more value rest)) =
+    and_then (and_then (read_key key) (read_value value)) (λ setting. and_then (read_settings rest) (λ settings. Ok (with_setting setting settings)))
+
+-- a strategy with settings, if there is one
+abbrev pub with_settings : ℕ → Strategy → Option (List (ParamKey × ℤ)) → Result Strategy StratError
+with_settings at s None = Err (BadStrategy at)
+with_settings at s (Some []) = Err (BadStrategy at)
+with_settings at s (Some (setting ∷ settings)) = Ok (strategy.Params s (setting ∷ settings))
+
+-- a name as a strategy
+abbrev pub name_read : Names → List ℕ → ℕ → Result Strategy StratError
+name_read names text at =
+    if not (is_simple_symbol text) then Err (BadStrategy at) else
+    if is_known names text then Ok (strategy.Prim text) else Err (UnknownReducer at)
+
+-- an atom as a strategy
+abbrev pub strategy_atom : Names → AtomKind → List ℕ → ℕ → Result Strategy StratError
+strategy_atom names kind.Symbol text at = name_read names text at
+strategy_atom names kind.Quoted text at = Err (BadStrategy at)
+strategy_atom names kind.Numeral text at = Err (BadStrategy at)
+strategy_atom names kind.Decimal text at = Err (BadStrategy at)
+strategy_atom names kind.Bits text at = Err (BadStrategy at)
+strategy_atom names kind.Text text at = Err (BadStrategy at)
+strategy_atom names kind.Keyword text at = Err (BadStrategy at)
+
+-- a form of two strategies, of two or more, of two to so many
+abbrev pub two_parts : ℕ → (Strategy → Strategy → Strategy) → List Strategy → Result Strategy StratError
+two_parts at make [] = Err (BadStrategy at)
+two_parts at make (a ∷ []) = Err (BadStrategy at)
+two_parts at make (a ∷ b ∷ []) = Ok (make a b)
+two_parts at make (a ∷ b ∷ c ∷ rest) = Err (BadStrategy at)
+
+abbrev pub one_part : ℕ → (Strategy → Strategy) → List Strategy → Result Strategy StratError
+one_part at make [] = Err (BadStrategy at)
+one_part at make (a ∷ []) = Ok (make a)
+one_part at make (a ∷ b ∷ rest) = Err (BadStrategy at)
+
+abbrev pub some_parts : ℕ → (List Strategy → Strategy) → List Strategy → Result Strategy StratError
+some_parts at make parts = if nat_le 2 (length parts) then Ok (make parts) else Err (BadStrategy at)
+
+abbrev pub branches : ℕ → List Strategy → Result Strategy StratError
+branches at parts = if nat_le 2 (length parts) && nat_le (length parts) BRANCHES then Ok (strategy.ParOr parts) else Err (BadStrategy at)
+
+-- a numeral up to a number
+abbrev pub limited : ℕ → ℕ → Form → Option ℕ → Result ℕ StratError
+limited at most form None = Err (BadStrategy at)
+limited at most form (Some n) = if nat_le n most then Ok n else Err (BadStrategy (place_of form))
+
+-- what stands behind the strategy of a `repeat`
+abbrev pub repeated : ℕ → Strategy → Forms → Result Strategy StratError
+repeated at s none = Ok (strategy.Repeat s TURNS)
+repeated at s (more form forms) = and_then (limited at (2 ^ 32 - 1) form (numeral_of form)) (λ turns. only at forms (strategy.Repeat s turns))
+
+-- what stands behind the strategy of a `try-for`
+abbrev pub tried : ℕ → Strategy → Forms → Result Strategy StratError
+tried at s none = Err (BadStrategy at)
+tried at s (more form forms) = and_then (limited at (2 ^ 62) form (numeral_of form)) (λ limit. only at forms (strategy.TryFor s limit))
+
+-- A form of a strategy by its word, from its arguments: the first one as a probe and as a strategy, the others as they stand
+-- and as strategies.
+abbrev pub strategy_form : ℕ → Form → Forms → Result Strategy StratError → Result (List Strategy) StratError → Option Head → Result Strategy StratError
+strategy_form at arg args part parts None = Err (BadStrategy at)
+strategy_form at arg args part parts (Some head.Then) = and_then (in_front part parts) (some_parts at strategy.Then)
+strategy_form at arg args part parts (Some head.OrElse) = and_then (in_front part parts) (some_parts at strategy.OrElse)
+strategy_form at arg args part parts (Some head.ParOr) = and_then (in_front part parts) (branches at)
+strategy_form at arg args part parts (Some head.ParThen) = and_then (in_front part parts) (two_parts at strategy.ParThen)
+strategy_form at arg args part parts (Some head.If) = and_then (read_probe arg) (λ p. and_then parts (two_parts at (strategy.If p)))
+strategy_form at arg args part parts (Some head.When) = and_then (read_probe arg) (λ p. and_then parts (one_part at (strategy.When p)))
+strategy_form at arg args part parts (Some head.FailIf) = and_then (read_probe arg) (λ p. only at args (strategy.FailIf p))
+strategy_form at arg args part parts (Some head.Repeat) = and_then part (λ s. repeated at s args)
+strategy_form at arg args part parts (Some head.UsingParams) = and_then part (λ s. and_then (read_settings args) (with_settings at s))
+strategy_form at arg args part parts (Some head.TryFor) = and_then part (λ s. tried at s args)
+
+unfoldable mutual
+  -- a form as a strategy, where so many forms may stand in one another
+  pub read_strategy : Names → Form → ℕ → Result Strategy StratError
+  read_strategy names (atom is text at) zero = Err (BadStrategy at)
+  read_strategy names (atom is text at) (suc left) = strategy_atom names is text at
+  read_strategy names (list items at) zero = Err (BadStrategy at)
+  read_strategy names (list none at) (suc left) = Err (BadStrategy at)
+  read_strategy names (list (more first none) at) (suc left) = Err (BadStrategy at)
+  read_strategy names (list (more first (more arg args)) at) (suc left) =
+      strategy_form at arg args (read_strategy names arg left) (read_each names args left) (head_in first)
+
+  -- each of the forms as a strategy
+  pub read_each : Names → Forms → ℕ → Result (List Strategy) StratError
+  read_each names none left = Ok []
+  read_each names (more form forms) left = in_front (read_strategy names form left) (read_each names forms left)

@@ -1,0 +1,16 @@
+//! Strategies as text: the language in which users write strategies, read and written exactly.
+//!
+//! The contract for the layer above: `read_strategy` gives the strategy that an s-expression spells, or the first of its
+//! faults. It stands on `sexp_read` for the s-expressions.
+#![tactic(auto)]
+
+mod error;
+mod name;
+mod probe;
+mod strategy;
+mod words;
+
+pub use error::StratError;
+pub use name::ReducerName;
+pub use probe::ProbeExpr;
+pub use strategy::{ParamKey, Strategy};
