@@ -6,3 +6,6 @@ pub mod Reading
 pub mod Faults
 pub mod Spelled
 pub mod Allowed
+pub mod Nesting
+pub mod Known
+pub mod Back
