@@ -9,3 +9,4 @@ pub mod Allowed
 pub mod Nesting
 pub mod Known
 pub mod Back
+pub mod Within

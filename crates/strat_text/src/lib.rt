@@ -9,8 +9,10 @@ mod name;
 mod probe;
 mod strategy;
 mod words;
+mod write;
 
 pub use error::StratError;
 pub use name::ReducerName;
 pub use probe::ProbeExpr;
 pub use strategy::{ParamKey, Strategy};
+pub use write::write_strategy;
