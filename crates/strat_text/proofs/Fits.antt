@@ -1,7 +1,9 @@
 -- What `fits` is at each form, by its parts.
-use Rattle.std.proofs.Common.{◌≡◌, ◌≢◌, ℕ, zero, suc, ◌+◌, ◌-◌, ◌^◌, ◌≤◌, max, Bool, true, false, ◌&&◌, nat_le, ℤ, List, [], ◌∷◌, length, map, refl, ap, sym, subst, ◌∙◌, arith}
+use Rattle.std.proofs.Common.{◌≡◌, ◌≢◌, ℕ, zero, suc, ◌+◌, ◌-◌, ◌^◌, ◌≤◌, ◌<◌, max, SFits, ◌⊎◌, inl, inr, take, get_or, pos, negsuc, not, Bool, true, false, ◌&&◌, nat_le, ℤ, List, [], ◌∷◌, length, map, refl, ap, sym, subst, ◌∙◌, arith}
 use Rattle.std.specs.Prelude.{nat_lt}
+use Rattle.std.specs.Int.{w128}
 use Rattle.std.specs.List.{list_all}
+use Rattle.std.proofs.lemmas.List.Folds.{list_all_more}
 use Rattle.std.proofs.lemmas.Bool.Decides.{nat_tests}
 use Rattle.std.proofs.lemmas.List.{length-map}
 use Rattle.sexp_read.specs.Lexical.{is_simple_symbol}
@@ -12,8 +14,9 @@ use Rattle.strat_text.specs.declared.strategy.Strategy.{Strategy}
 use Rattle.strat_text.specs.declared.strategy.Strategy.TheVariants as strategy
 use Rattle.strat_text.specs.declared.strategy.TheConstants.{BRANCHES}
 use Rattle.strat_text.specs.Allowed.{allowed_probe_layer, is_allowed_probe, allowed_layer, is_formed, all_true, are_settings, greatest, depth_layer, depth_of}
+use Rattle.strat_text.specs.Number.{is_wide}
 use Rattle.strat_text.specs.Within.{fits}
-use Rattle.strat_text.proofs.Layers.{fold-And, fold-Or, fold-Prim, fold-Then, fold-OrElse, fold-ParOr, fold-ParThen, fold-If, fold-When, fold-FailIf, fold-Repeat, fold-Params, fold-TryFor, StrategyForms, by_StrategyForms}
+use Rattle.strat_text.proofs.Layers.{fold-Size, fold-NumExprs, fold-Depth, fold-NumConsts, fold-IsPropositional, fold-IsCanonical, fold-IsBounded, fold-Is01, fold-MaxBits, fold-Num, fold-Lt, fold-Le, fold-Gt, fold-Ge, fold-Eq, fold-And, fold-Or, fold-Not, fold-Prim, fold-Then, fold-OrElse, fold-ParOr, fold-ParThen, fold-If, fold-When, fold-FailIf, fold-Repeat, fold-Params, fold-TryFor, StrategyForms, by_StrategyForms}
 
 same_bool : (a b : Bool) → (a ≡ true → b ≡ true) → (b ≡ true → a ≡ true) → a ≡ b
 same_bool true b there back = sym (there refl)
@@ -77,15 +80,15 @@ then_level true true a l = le_level a l ∙ sym (and_true (nat_le a l))
 then_level true false a l = sym (and_false (nat_le a l))
 then_level false t a l = refl
 
-settings_level : (f n t : Bool) (a l : ℕ) → ((f && n && t) && nat_le (1 + a) (suc l)) ≡ ((f && nat_le a l) && n && t)
+settings_level : (f n t : Bool) (a l : ℕ) → ((f && n && t) && nat_le (1 + a) (suc l)) ≡ ((f && nat_le a l) && (n && t))
 settings_level true true t a l = then_level true t a l ∙ last (nat_le a l) t
   where
-    last : (b c : Bool) → (b && c) ≡ (b && true && c)
+    last : (b c : Bool) → (b && c) ≡ (b && (true && c))
     last true c = refl
     last false c = refl
 settings_level true false t a l = none (nat_le a l) t
   where
-    none : (b c : Bool) → false ≡ (b && false && c)
+    none : (b c : Bool) → false ≡ (b && (false && c))
     none true c = refl
     none false c = refl
 settings_level false n t a l = refl
@@ -151,11 +154,11 @@ fits-OrElse s ss left is some = at_level left (λ n. fits s n ≡ (nat_le 2 (len
     ap (λ x. fits x (suc l)) is ∙ ap (λ f. f && nat_le (depth_of (strategy.OrElse ss)) (suc l)) (fold-OrElse Bool allowed_layer ss) ∙ ap (λ d. (nat_le 2 (length (map is_formed ss)) && all_true (map is_formed ss)) && nat_le d (suc l)) (fold-OrElse ℕ depth_layer ss)
     ∙ when_level (nat_le 2 (length (map is_formed ss))) (all_true (map is_formed ss)) (greatest (map depth_of ss)) l ∙ ap (λ t. t && (all_true (map is_formed ss) && nat_le (greatest (map depth_of ss)) l)) (two_parts ss) ∙ ap (λ t. nat_le 2 (length ss) && t) (all_fit ss l) ∙ ap (λ m. (nat_le 2 (length ss) && list_all (λ s. fits s m) ss)) (sym (less_one l)))
 
-pub fits-ParOr : (s : Strategy) (ss : List Strategy) (left : ℕ) → s ≡ strategy.ParOr ss → left ≢ 0 → fits s left ≡ (nat_le 2 (length ss) && nat_le (length ss) BRANCHES && list_all (λ s. fits s (left - 1)) ss)
+pub fits-ParOr : (s : Strategy) (ss : List Strategy) (left : ℕ) → s ≡ strategy.ParOr ss → left ≢ 0 → fits s left ≡ ((nat_le 2 (length ss) && nat_le (length ss) BRANCHES) && list_all (λ s. fits s (left - 1)) ss)
 unfolding fits is_formed depth_of
-fits-ParOr s ss left is some = at_level left (λ n. fits s n ≡ (nat_le 2 (length ss) && nat_le (length ss) BRANCHES && list_all (λ s. fits s (n - 1)) ss)) some (λ l.
+fits-ParOr s ss left is some = at_level left (λ n. fits s n ≡ ((nat_le 2 (length ss) && nat_le (length ss) BRANCHES) && list_all (λ s. fits s (n - 1)) ss)) some (λ l.
     ap (λ x. fits x (suc l)) is ∙ ap (λ f. f && nat_le (depth_of (strategy.ParOr ss)) (suc l)) (fold-ParOr Bool allowed_layer ss) ∙ ap (λ d. (nat_le 2 (length (map is_formed ss)) && nat_le (length (map is_formed ss)) BRANCHES && all_true (map is_formed ss)) && nat_le d (suc l)) (fold-ParOr ℕ depth_layer ss)
-    ∙ branch_level (nat_le 2 (length (map is_formed ss))) (nat_le (length (map is_formed ss)) BRANCHES) (all_true (map is_formed ss)) (greatest (map depth_of ss)) l ∙ ap (λ t. t && nat_le (length (map is_formed ss)) BRANCHES && (all_true (map is_formed ss) && nat_le (greatest (map depth_of ss)) l)) (two_parts ss) ∙ ap (λ t. nat_le 2 (length ss) && t && (all_true (map is_formed ss) && nat_le (greatest (map depth_of ss)) l)) (most_parts ss) ∙ ap (λ t. nat_le 2 (length ss) && nat_le (length ss) BRANCHES && t) (all_fit ss l) ∙ ap (λ m. (nat_le 2 (length ss) && nat_le (length ss) BRANCHES && list_all (λ s. fits s m) ss)) (sym (less_one l)))
+    ∙ branch_level (nat_le 2 (length (map is_formed ss))) (nat_le (length (map is_formed ss)) BRANCHES) (all_true (map is_formed ss)) (greatest (map depth_of ss)) l ∙ ap (λ t. t && nat_le (length (map is_formed ss)) BRANCHES && (all_true (map is_formed ss) && nat_le (greatest (map depth_of ss)) l)) (two_parts ss) ∙ ap (λ t. nat_le 2 (length ss) && t && (all_true (map is_formed ss) && nat_le (greatest (map depth_of ss)) l)) (most_parts ss) ∙ ap (λ t. nat_le 2 (length ss) && nat_le (length ss) BRANCHES && t) (all_fit ss l) ∙ ap (λ m. ((nat_le 2 (length ss) && nat_le (length ss) BRANCHES) && list_all (λ s. fits s m) ss)) (sym (less_one l)))
 
 pub fits-ParThen : (s : Strategy) (a b : Strategy) (left : ℕ) → s ≡ strategy.ParThen a b → left ≢ 0 → fits s left ≡ (fits a (left - 1) && fits b (left - 1))
 unfolding fits is_formed depth_of
@@ -187,11 +190,11 @@ fits-Repeat s a turns left is some = at_level left (λ n. fits s n ≡ (fits a (
     ap (λ x. fits x (suc l)) is ∙ ap (λ f. f && nat_le (depth_of (strategy.Repeat a turns)) (suc l)) (fold-Repeat Bool allowed_layer a turns) ∙ ap (λ d. (is_formed a && nat_lt turns (2 ^ 32)) && nat_le d (suc l)) (fold-Repeat ℕ depth_layer a turns)
     ∙ then_level (is_formed a) (nat_lt turns (2 ^ 32)) (depth_of a) l ∙ ap (λ m. (fits a m && nat_lt turns (2 ^ 32))) (sym (less_one l)))
 
-pub fits-Params : (s : Strategy) (a : Strategy) (settings : List (ParamKey × ℤ)) (left : ℕ) → s ≡ strategy.Params a settings → left ≢ 0 → fits s left ≡ (fits a (left - 1) && nat_le 1 (length settings) && are_settings settings)
+pub fits-Params : (s : Strategy) (a : Strategy) (settings : List (ParamKey × ℤ)) (left : ℕ) → s ≡ strategy.Params a settings → left ≢ 0 → fits s left ≡ (fits a (left - 1) && (nat_le 1 (length settings) && are_settings settings))
 unfolding fits is_formed depth_of
-fits-Params s a settings left is some = at_level left (λ n. fits s n ≡ (fits a (n - 1) && nat_le 1 (length settings) && are_settings settings)) some (λ l.
+fits-Params s a settings left is some = at_level left (λ n. fits s n ≡ (fits a (n - 1) && (nat_le 1 (length settings) && are_settings settings))) some (λ l.
     ap (λ x. fits x (suc l)) is ∙ ap (λ f. f && nat_le (depth_of (strategy.Params a settings)) (suc l)) (fold-Params Bool allowed_layer a settings) ∙ ap (λ d. (is_formed a && nat_le 1 (length settings) && are_settings settings) && nat_le d (suc l)) (fold-Params ℕ depth_layer a settings)
-    ∙ settings_level (is_formed a) (nat_le 1 (length settings)) (are_settings settings) (depth_of a) l ∙ ap (λ m. (fits a m && nat_le 1 (length settings) && are_settings settings)) (sym (less_one l)))
+    ∙ settings_level (is_formed a) (nat_le 1 (length settings)) (are_settings settings) (depth_of a) l ∙ ap (λ m. (fits a m && (nat_le 1 (length settings) && are_settings settings))) (sym (less_one l)))
 
 pub fits-TryFor : (s : Strategy) (a : Strategy) (limit : ℕ) (left : ℕ) → s ≡ strategy.TryFor a limit → left ≢ 0 → fits s left ≡ (fits a (left - 1) && nat_le limit (2 ^ 62))
 unfolding fits is_formed depth_of
@@ -212,3 +215,87 @@ pub allowed-Or : (p : ProbeExpr) (ps : List ProbeExpr) → p ≡ probe.Or ps →
 unfolding is_allowed_probe
 allowed-Or p ps is =
     ap is_allowed_probe is ∙ fold-Or Bool allowed_probe_layer ps ∙ ap (λ n. nat_le 1 n && all_true (map is_allowed_probe ps)) (length-map ps is_allowed_probe) ∙ ap (λ b. nat_le 1 (length ps) && b) (all_probes ps)
+
+pub allowed-Size : (p : ProbeExpr) → p ≡ probe.Size → true ≡ is_allowed_probe p
+unfolding is_allowed_probe
+allowed-Size p is = sym (ap is_allowed_probe is ∙ fold-Size Bool allowed_probe_layer)
+
+pub allowed-NumExprs : (p : ProbeExpr) → p ≡ probe.NumExprs → true ≡ is_allowed_probe p
+unfolding is_allowed_probe
+allowed-NumExprs p is = sym (ap is_allowed_probe is ∙ fold-NumExprs Bool allowed_probe_layer)
+
+pub allowed-Depth : (p : ProbeExpr) → p ≡ probe.Depth → true ≡ is_allowed_probe p
+unfolding is_allowed_probe
+allowed-Depth p is = sym (ap is_allowed_probe is ∙ fold-Depth Bool allowed_probe_layer)
+
+pub allowed-NumConsts : (p : ProbeExpr) → p ≡ probe.NumConsts → true ≡ is_allowed_probe p
+unfolding is_allowed_probe
+allowed-NumConsts p is = sym (ap is_allowed_probe is ∙ fold-NumConsts Bool allowed_probe_layer)
+
+pub allowed-IsPropositional : (p : ProbeExpr) → p ≡ probe.IsPropositional → true ≡ is_allowed_probe p
+unfolding is_allowed_probe
+allowed-IsPropositional p is = sym (ap is_allowed_probe is ∙ fold-IsPropositional Bool allowed_probe_layer)
+
+pub allowed-IsCanonical : (p : ProbeExpr) → p ≡ probe.IsCanonical → true ≡ is_allowed_probe p
+unfolding is_allowed_probe
+allowed-IsCanonical p is = sym (ap is_allowed_probe is ∙ fold-IsCanonical Bool allowed_probe_layer)
+
+pub allowed-IsBounded : (p : ProbeExpr) → p ≡ probe.IsBounded → true ≡ is_allowed_probe p
+unfolding is_allowed_probe
+allowed-IsBounded p is = sym (ap is_allowed_probe is ∙ fold-IsBounded Bool allowed_probe_layer)
+
+pub allowed-Is01 : (p : ProbeExpr) → p ≡ probe.Is01 → true ≡ is_allowed_probe p
+unfolding is_allowed_probe
+allowed-Is01 p is = sym (ap is_allowed_probe is ∙ fold-Is01 Bool allowed_probe_layer)
+
+pub allowed-MaxBits : (p : ProbeExpr) → p ≡ probe.MaxBits → true ≡ is_allowed_probe p
+unfolding is_allowed_probe
+allowed-MaxBits p is = sym (ap is_allowed_probe is ∙ fold-MaxBits Bool allowed_probe_layer)
+
+pub allowed-Lt : (p : ProbeExpr) (a b : ProbeExpr) → p ≡ probe.Lt a b → is_allowed_probe p ≡ (is_allowed_probe a && is_allowed_probe b)
+unfolding is_allowed_probe
+allowed-Lt p a b is = ap is_allowed_probe is ∙ fold-Lt Bool allowed_probe_layer a b
+
+pub allowed-Le : (p : ProbeExpr) (a b : ProbeExpr) → p ≡ probe.Le a b → is_allowed_probe p ≡ (is_allowed_probe a && is_allowed_probe b)
+unfolding is_allowed_probe
+allowed-Le p a b is = ap is_allowed_probe is ∙ fold-Le Bool allowed_probe_layer a b
+
+pub allowed-Gt : (p : ProbeExpr) (a b : ProbeExpr) → p ≡ probe.Gt a b → is_allowed_probe p ≡ (is_allowed_probe a && is_allowed_probe b)
+unfolding is_allowed_probe
+allowed-Gt p a b is = ap is_allowed_probe is ∙ fold-Gt Bool allowed_probe_layer a b
+
+pub allowed-Ge : (p : ProbeExpr) (a b : ProbeExpr) → p ≡ probe.Ge a b → is_allowed_probe p ≡ (is_allowed_probe a && is_allowed_probe b)
+unfolding is_allowed_probe
+allowed-Ge p a b is = ap is_allowed_probe is ∙ fold-Ge Bool allowed_probe_layer a b
+
+pub allowed-Eq : (p : ProbeExpr) (a b : ProbeExpr) → p ≡ probe.Eq a b → is_allowed_probe p ≡ (is_allowed_probe a && is_allowed_probe b)
+unfolding is_allowed_probe
+allowed-Eq p a b is = ap is_allowed_probe is ∙ fold-Eq Bool allowed_probe_layer a b
+
+pub allowed-Not : (p a : ProbeExpr) → p ≡ probe.Not a → is_allowed_probe p ≡ is_allowed_probe a
+unfolding is_allowed_probe
+allowed-Not p a is = ap is_allowed_probe is ∙ fold-Not Bool allowed_probe_layer a
+
+narrow : (z : ℤ) → SFits w128 z → is_wide z ≡ false
+narrow (pos n) h = grind (arith, nat_tests)
+narrow (negsuc n) h = grind (arith, nat_tests)
+
+pub allowed-Num : (p : ProbeExpr) (z : ℤ) → p ≡ probe.Num z → SFits w128 z → true ≡ is_allowed_probe p
+unfolding is_allowed_probe
+allowed-Num p z is h = sym (ap is_allowed_probe is ∙ fold-Num Bool allowed_probe_layer z ∙ ap not (narrow z h))
+
+-- each of a list
+
+pub all_grows : {X : Type 0} (test : X → Bool) (xs : List X) (i : ℕ) (x : X) → i < length xs → x ≡ get_or xs i x → list_all test (take i xs) ≡ true → test x ≡ true → list_all test (take (i + 1) xs) ≡ true
+all_grows test xs i x within here so_far passes = list_all_more test xs i x within ∙ both_of (list_all test (take i xs)) (test (get_or xs i x)) so_far (ap test (sym here) ∙ passes)
+
+pub allowed-words : (p : ProbeExpr) → ((p ≡ probe.Size) ⊎ ((p ≡ probe.NumExprs) ⊎ ((p ≡ probe.Depth) ⊎ ((p ≡ probe.NumConsts) ⊎ ((p ≡ probe.IsPropositional) ⊎ ((p ≡ probe.IsCanonical) ⊎ ((p ≡ probe.IsBounded) ⊎ ((p ≡ probe.Is01) ⊎ (p ≡ probe.MaxBits))))))))) → true ≡ is_allowed_probe p
+allowed-words p (inl is) = allowed-Size p is
+allowed-words p (inr (inl is)) = allowed-NumExprs p is
+allowed-words p (inr (inr (inl is))) = allowed-Depth p is
+allowed-words p (inr (inr (inr (inl is)))) = allowed-NumConsts p is
+allowed-words p (inr (inr (inr (inr (inl is))))) = allowed-IsPropositional p is
+allowed-words p (inr (inr (inr (inr (inr (inl is)))))) = allowed-IsCanonical p is
+allowed-words p (inr (inr (inr (inr (inr (inr (inl is))))))) = allowed-IsBounded p is
+allowed-words p (inr (inr (inr (inr (inr (inr (inr (inl is)))))))) = allowed-Is01 p is
+allowed-words p (inr (inr (inr (inr (inr (inr (inr (inr is)))))))) = allowed-MaxBits p is

@@ -4,6 +4,7 @@
 //! faults. It stands on `sexp_read` for the s-expressions.
 #![tactic(auto)]
 
+mod allowed;
 mod error;
 mod name;
 mod probe;
@@ -11,6 +12,7 @@ mod strategy;
 mod words;
 mod write;
 
+pub use allowed::is_allowed;
 pub use error::StratError;
 pub use name::ReducerName;
 pub use probe::ProbeExpr;
