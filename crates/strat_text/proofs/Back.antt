@@ -1,5 +1,5 @@
 -- What is written is read again.
-use Rattle.std.proofs.Common.{◌≡◌, ℕ, ◌+◌, ◌≤◌, Bool, true, ◌&&◌, nat_le, List, [], ◌∷◌, ◌++◌, length, drop, Ok, refl, ap, sym, subst, ◌∙◌, arith, append-nil}
+use Rattle.std.proofs.Common.{◌≡◌, ◌+◌, ◌≤◌, true, nat_le, [], ◌++◌, length, Ok, refl, ap, sym, subst, ◌∙◌, arith, append-nil}
 use Rattle.std.proofs.lemmas.Bool.Decides.{nat_tests}
 use Rattle.sexp_read.specs.declared.parsing.TheConstants.{NESTING}
 use Rattle.sexp_read.specs.declared.sexp.Next.TheVariants.{Item}
@@ -12,7 +12,6 @@ use Rattle.strat_text.specs.declared.strategy.Strategy.{Strategy}
 use Rattle.strat_text.specs.declared.strategy.TheConstants.{DEPTH}
 use Rattle.strat_text.specs.Allowed.{is_allowed, is_formed, depth_of}
 use Rattle.strat_text.specs.Back.{ReadsBack}
-use Rattle.strat_text.specs.Form.{form_of}
 use Rattle.strat_text.specs.Grammar.{Names}
 use Rattle.strat_text.specs.Known.{are_known}
 use Rattle.strat_text.specs.Nesting.{nesting}

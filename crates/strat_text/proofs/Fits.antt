@@ -16,7 +16,7 @@ use Rattle.strat_text.specs.declared.strategy.TheConstants.{BRANCHES}
 use Rattle.strat_text.specs.Allowed.{allowed_probe_layer, is_allowed_probe, allowed_layer, is_formed, all_true, are_settings, greatest, depth_layer, depth_of}
 use Rattle.strat_text.specs.Number.{is_wide}
 use Rattle.strat_text.specs.Within.{fits}
-use Rattle.strat_text.proofs.Layers.{fold-Size, fold-NumExprs, fold-Depth, fold-NumConsts, fold-IsPropositional, fold-IsCanonical, fold-IsBounded, fold-Is01, fold-MaxBits, fold-Num, fold-Lt, fold-Le, fold-Gt, fold-Ge, fold-Eq, fold-And, fold-Or, fold-Not, fold-Prim, fold-Then, fold-OrElse, fold-ParOr, fold-ParThen, fold-If, fold-When, fold-FailIf, fold-Repeat, fold-Params, fold-TryFor, StrategyForms, by_StrategyForms}
+use Rattle.strat_text.proofs.Layers.{fold-Size, fold-NumExprs, fold-Depth, fold-NumConsts, fold-IsPropositional, fold-IsCanonical, fold-IsBounded, fold-Is01, fold-MaxBits, fold-Num, fold-Lt, fold-Le, fold-Gt, fold-Ge, fold-Eq, fold-And, fold-Or, fold-Not, fold-Prim, fold-Then, fold-OrElse, fold-ParOr, fold-ParThen, fold-If, fold-When, fold-FailIf, fold-Repeat, fold-Params, fold-TryFor, by_StrategyForms}
 
 same_bool : (a b : Bool) → (a ≡ true → b ≡ true) → (b ≡ true → a ≡ true) → a ≡ b
 same_bool true b there back = sym (there refl)

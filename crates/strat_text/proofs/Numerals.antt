@@ -1,13 +1,12 @@
 -- Written numbers: a decimal is a numeral, whose value is the number.
-use Rattle.std.proofs.Common.{◌≡◌, ◌≢◌, ℕ, suc, ◌+◌, ◌-◌, ◌*◌, ◌/◌, ◌%◌, ◌^◌, ◌≤◌, ◌<◌, Bool, true, false, not, ◌&&◌, ◌==◌, ℤ, pos, negsuc, List, [], ◌∷◌, ◌++◌, get_or, length, refl, ap, sym, ◌∙◌, arith}
-use Rattle.std.specs.Prelude.{decimal, nat_lt, nat_abs, int_le}
+use Rattle.std.proofs.Common.{◌≡◌, ◌≢◌, ℕ, ◌+◌, ◌-◌, ◌*◌, ◌%◌, ◌^◌, ◌<◌, Bool, true, false, not, ◌&&◌, ◌==◌, ℤ, pos, negsuc, List, [], ◌∷◌, ◌++◌, get_or, refl, ap, sym, ◌∙◌, arith}
+use Rattle.std.specs.Prelude.{decimal, nat_abs, int_le}
 use Rattle.std.proofs.lemmas.Bool.Decides.{nat_tests}
 use Rattle.std.proofs.lemmas.Fmt.{decimal_by_steps_wide}
 use Rattle.std.specs.Char.{is_ascii_digit}
 use Rattle.std.specs.List.{list_all}
-use Rattle.sexp_read.specs.Lexical.{is_numeral, is_word_byte, is_simple_symbol}
+use Rattle.sexp_read.specs.Lexical.{is_numeral, is_simple_symbol}
 use Rattle.sexp_read.specs.declared.sexp.AtomKind.TheVariants.{Symbol, Numeral, Keyword}
-use Rattle.sexp_read.specs.Token.{word_kind}
 use Rattle.sexp_read.proofs.Lexes.{symbol_is_word, numeral_is_word, word_kind-symbol, word_kind-numeral, word_kind-keyword}
 use Rattle.strat_text.specs.declared.strategy.ParamKey.{ParamKey}
 use Rattle.strat_text.specs.declared.strategy.ParamKey.TheVariants as key
@@ -74,8 +73,8 @@ digit_byte n h = grind (arith, nat_tests)
 written : (n : ℕ) → n < 10 ^ 64 → Written n (decimal n)
 written = decimal_by_steps_wide Written (λ n h. record { numeral = digit_byte n h; first = λ some. omega arith })
     (λ n ds low rest.
-        let push = numeral_push ds (48 + n % 10) rest.numeral (rest.first (omega arith)) (digit_byte (n % 10) (omega arith)) in
-        record { numeral = push.0; first = λ some. push.1 })
+    let push = numeral_push ds (48 + n % 10) rest.numeral (rest.first (omega arith)) (digit_byte (n % 10) (omega arith)) in
+    record { numeral = push.0; first = λ some. push.1 })
 
 pub numeral-decimal : (n : ℕ) → n < 10 ^ 64 → is_numeral (decimal n) ≡ true
 numeral-decimal n h = (written n h).numeral

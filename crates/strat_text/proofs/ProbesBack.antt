@@ -1,8 +1,7 @@
 -- Probes as trees of words: their texts are the written ones, and their forms are read as them.
-use Rattle.std.proofs.Common.{◌≡◌, ℕ, suc, ◌+◌, ◌^◌, ◌<◌, max, Bool, true, false, ◌&&◌, not, nat_le, cond, ℤ, pos, negsuc, List, [], ◌∷◌, ◌++◌, length, map, Option, None, Some, Ok, Err, refl, ap, sym, subst, ◌∙◌, arith}
+use Rattle.std.proofs.Common.{◌≡◌, ℕ, suc, ◌+◌, ◌^◌, ◌<◌, max, Bool, true, false, not, nat_le, ℤ, pos, negsuc, List, [], ◌∷◌, ◌++◌, length, map, Some, Ok, refl, ap, sym, subst, ◌∙◌, arith}
 use Rattle.std.specs.Prelude.{⊤, codes, decimal, nat_abs, neg_ℤ}
-use Rattle.std.proofs.lemmas.Bool.Decides.{nat_tests}
-use Rattle.sexp_read.specs.declared.sexp.AtomKind.TheVariants.{Symbol, Numeral, Keyword}
+use Rattle.sexp_read.specs.declared.sexp.AtomKind.TheVariants.{Symbol, Numeral}
 use Rattle.strat_text.specs.declared.words.Operator.{Operator}
 use Rattle.strat_text.specs.declared.words.Operator.TheVariants as operator
 use Rattle.strat_text.specs.declared.probe.ProbeExpr.{ProbeExpr}
@@ -10,7 +9,6 @@ use Rattle.strat_text.specs.declared.probe.ProbeExpr.TheVariants as probe
 use Rattle.strat_text.specs.declared.probe.ProbeExpr.TheOpen.{ProbeExpr-F}
 use Rattle.strat_text.specs.declared.probe.ProbeExpr.TheFolds.{fold-ProbeExpr}
 use Rattle.strat_text.specs.Allowed.{allowed_probe_layer, is_allowed_probe, all_true, greatest}
-use Rattle.strat_text.specs.Form.{Form, Forms, atom, list, none, more}
 use Rattle.strat_text.specs.Nesting.{number_nesting, probe_nesting_layer, probe_nesting}
 use Rattle.strat_text.specs.Number.{is_wide, number_of}
 use Rattle.strat_text.specs.Reading.{read_probe, read_probes, probe_number, probe_form}

@@ -1,5 +1,5 @@
 -- The forms of written strategies are read as the strategies.
-use Rattle.std.proofs.Common.{◌≡◌, ℕ, zero, suc, ◌+◌, ◌-◌, ◌^◌, ◌<◌, ◌≤◌, max, Bool, true, false, ◌&&◌, nat_le, ℤ, List, [], ◌∷◌, length, map, Option, None, Some, Result, Ok, refl, ap, sym, subst, ◌∙◌, arith}
+use Rattle.std.proofs.Common.{◌≡◌, ℕ, zero, suc, ◌+◌, ◌-◌, ◌^◌, ◌<◌, ◌≤◌, max, Bool, true, false, nat_le, ℤ, List, [], ◌∷◌, length, map, Some, Result, Ok, refl, ap, sym, subst, ◌∙◌, arith}
 use Rattle.std.specs.Prelude.{⊤, codes, decimal, nat_lt}
 use Rattle.std.proofs.lemmas.Bool.Decides.{nat_tests}
 use Rattle.std.proofs.lemmas.List.{length-map}
@@ -13,14 +13,13 @@ use Rattle.strat_text.specs.declared.strategy.ParamKey.{ParamKey}
 use Rattle.strat_text.specs.declared.strategy.ParamKey.TheVariants as key
 use Rattle.strat_text.specs.declared.strategy.Strategy.{Strategy}
 use Rattle.strat_text.specs.declared.strategy.Strategy.TheVariants as strategy
-use Rattle.strat_text.specs.declared.strategy.Strategy.TheFolds.{fold-Strategy}
 use Rattle.strat_text.specs.declared.strategy.TheConstants.{BRANCHES}
 use Rattle.strat_text.specs.Allowed.{allowed_layer, is_formed, is_allowed_probe, all_true, are_settings, greatest, depth_layer, depth_of}
-use Rattle.strat_text.specs.Form.{Form, Forms, atom, place_of, numeral_of}
+use Rattle.strat_text.specs.Form.{atom, place_of, numeral_of}
 use Rattle.strat_text.specs.Grammar.{Names, is_known}
 use Rattle.strat_text.specs.Known.{known_layer, are_known}
-use Rattle.strat_text.specs.Number.{is_within, number_of}
-use Rattle.strat_text.specs.Reading.{and_then, in_front, read_probe, read_key, read_value, value_read, key_read, read_settings, with_setting, with_settings, read_strategy, read_each, strategy_form, strategy_atom, some_parts, two_parts, one_part, branches, limited, repeated, tried, only}
+use Rattle.strat_text.specs.Number.{is_within}
+use Rattle.strat_text.specs.Reading.{and_then, in_front, read_key, read_value, value_read, key_read, read_settings, with_settings, read_strategy, read_each, strategy_form, strategy_atom, some_parts, two_parts, one_part, branches, limited, repeated, tried, only}
 use Rattle.strat_text.specs.Spelled.{key_text}
 use Rattle.strat_text.specs.Words.{head_of, key_of}
 use Rattle.strat_text.proofs.Layers.{fold-Prim, fold-Then, fold-OrElse, fold-ParOr, fold-ParThen, fold-If, fold-When, fold-FailIf, fold-Repeat, fold-Params, fold-TryFor, EachStrategy, StrategyForms, by_StrategyForms}
@@ -108,7 +107,7 @@ module _ (names : Names) where
   list_back : (word : List ℕ) (h : Head) (t : Tree) (ts : Trees) (at left : ℕ) → head_of word ≡ Some h
       → read_strategy names (form_at (branch word (cons t ts)) at) (suc left)
       ≡ strategy_form at (form_at t (at + 1 + length word + 1)) (forms_at ts (at + 1 + length word + 1 + length (print t)))
-        (read_strategy names (form_at t (at + 1 + length word + 1)) left) (read_each names (forms_at ts (at + 1 + length word + 1 + length (print t))) left) (Some h)
+      (read_strategy names (form_at t (at + 1 + length word + 1)) left) (read_each names (forms_at ts (at + 1 + length word + 1 + length (print t))) left) (Some h)
   unfolding read_strategy
   list_back word h t ts at left is =
       let a = at + 1 + length word + 1 in
@@ -140,7 +139,6 @@ module _ (names : Names) where
       by_depth 0 n (λ k. read_strategy names (form_at (tree_of (strategy.Prim name)) at) k ≡ Ok (strategy.Prim name)) level
       (λ left low. ap (λ t. read_strategy names (form_at t at) (suc left)) (fold-Prim Tree tree_layer name) ∙ name_back names name at simple there)
 
-
   back_Then : (ss : List Strategy) → EachStrategy IsReadBack ss → IsReadBack (strategy.Then ss)
   unfolding IsReadBack tree_of is_formed are_known depth_of head_of
   back_Then [] each = λ n formed known deep at. let few_parts = sym (fold-Then Bool allowed_layer []) ∙ formed in absurd (true_false (sym few_parts))
@@ -151,14 +149,13 @@ module _ (names : Names) where
       let level : 1 + greatest (map depth_of (s ∷ ss)) ≤ n = subst (λ d. d ≤ n) (fold-Then ℕ depth_layer (s ∷ ss)) deep in
       by_depth (greatest (map depth_of (s ∷ ss))) n (λ m. read_strategy names (form_at (tree_of (strategy.Then (s ∷ ss))) at) m ≡ Ok (strategy.Then (s ∷ ss))) level
       (λ left low.
-          let row = each_back left (s ∷ ss) each (parts_all (s ∷ ss) f) k low in
-          let a = at + 1 + length (codes "then") + 1 in
-          let b = a + length (print (tree_of s)) in
-          ap (λ t. read_strategy names (form_at t at) (suc left)) (fold-Then Tree tree_layer (s ∷ ss))
-          ∙ list_back (codes "then") head.Then (tree_of s) (trees (map tree_of ss)) at left refl
-          ∙ ap (λ r. and_then r (some_parts at strategy.Then)) (front_back (read_strategy names (form_at (tree_of s) a) left) (read_each names (forms_at (trees (map tree_of ss)) b) left) s ss (row.0 a) (row_back left (trees (map tree_of ss)) ss b row.1))
-          ∙ many at strategy.Then (s ∷ ss) (two_there (s ∷ ss) two))
-
+      let row = each_back left (s ∷ ss) each (parts_all (s ∷ ss) f) k low in
+      let a = at + 1 + length (codes "then") + 1 in
+      let b = a + length (print (tree_of s)) in
+      ap (λ t. read_strategy names (form_at t at) (suc left)) (fold-Then Tree tree_layer (s ∷ ss))
+      ∙ list_back (codes "then") head.Then (tree_of s) (trees (map tree_of ss)) at left refl
+      ∙ ap (λ r. and_then r (some_parts at strategy.Then)) (front_back (read_strategy names (form_at (tree_of s) a) left) (read_each names (forms_at (trees (map tree_of ss)) b) left) s ss (row.0 a) (row_back left (trees (map tree_of ss)) ss b row.1))
+      ∙ many at strategy.Then (s ∷ ss) (two_there (s ∷ ss) two))
 
   back_OrElse : (ss : List Strategy) → EachStrategy IsReadBack ss → IsReadBack (strategy.OrElse ss)
   unfolding IsReadBack tree_of is_formed are_known depth_of head_of
@@ -170,14 +167,13 @@ module _ (names : Names) where
       let level : 1 + greatest (map depth_of (s ∷ ss)) ≤ n = subst (λ d. d ≤ n) (fold-OrElse ℕ depth_layer (s ∷ ss)) deep in
       by_depth (greatest (map depth_of (s ∷ ss))) n (λ m. read_strategy names (form_at (tree_of (strategy.OrElse (s ∷ ss))) at) m ≡ Ok (strategy.OrElse (s ∷ ss))) level
       (λ left low.
-          let row = each_back left (s ∷ ss) each (parts_all (s ∷ ss) f) k low in
-          let a = at + 1 + length (codes "or-else") + 1 in
-          let b = a + length (print (tree_of s)) in
-          ap (λ t. read_strategy names (form_at t at) (suc left)) (fold-OrElse Tree tree_layer (s ∷ ss))
-          ∙ list_back (codes "or-else") head.OrElse (tree_of s) (trees (map tree_of ss)) at left refl
-          ∙ ap (λ r. and_then r (some_parts at strategy.OrElse)) (front_back (read_strategy names (form_at (tree_of s) a) left) (read_each names (forms_at (trees (map tree_of ss)) b) left) s ss (row.0 a) (row_back left (trees (map tree_of ss)) ss b row.1))
-          ∙ many at strategy.OrElse (s ∷ ss) (two_there (s ∷ ss) two))
-
+      let row = each_back left (s ∷ ss) each (parts_all (s ∷ ss) f) k low in
+      let a = at + 1 + length (codes "or-else") + 1 in
+      let b = a + length (print (tree_of s)) in
+      ap (λ t. read_strategy names (form_at t at) (suc left)) (fold-OrElse Tree tree_layer (s ∷ ss))
+      ∙ list_back (codes "or-else") head.OrElse (tree_of s) (trees (map tree_of ss)) at left refl
+      ∙ ap (λ r. and_then r (some_parts at strategy.OrElse)) (front_back (read_strategy names (form_at (tree_of s) a) left) (read_each names (forms_at (trees (map tree_of ss)) b) left) s ss (row.0 a) (row_back left (trees (map tree_of ss)) ss b row.1))
+      ∙ many at strategy.OrElse (s ∷ ss) (two_there (s ∷ ss) two))
 
   back_ParOr : (ss : List Strategy) → EachStrategy IsReadBack ss → IsReadBack (strategy.ParOr ss)
   unfolding IsReadBack tree_of is_formed are_known depth_of head_of
@@ -189,14 +185,13 @@ module _ (names : Names) where
       let level : 1 + greatest (map depth_of (s ∷ ss)) ≤ n = subst (λ d. d ≤ n) (fold-ParOr ℕ depth_layer (s ∷ ss)) deep in
       by_depth (greatest (map depth_of (s ∷ ss))) n (λ m. read_strategy names (form_at (tree_of (strategy.ParOr (s ∷ ss))) at) m ≡ Ok (strategy.ParOr (s ∷ ss))) level
       (λ left low.
-          let row = each_back left (s ∷ ss) each (branches_all (s ∷ ss) f) k low in
-          let a = at + 1 + length (codes "par-or") + 1 in
-          let b = a + length (print (tree_of s)) in
-          ap (λ t. read_strategy names (form_at t at) (suc left)) (fold-ParOr Tree tree_layer (s ∷ ss))
-          ∙ list_back (codes "par-or") head.ParOr (tree_of s) (trees (map tree_of ss)) at left refl
-          ∙ ap (λ r. and_then r (branches at)) (front_back (read_strategy names (form_at (tree_of s) a) left) (read_each names (forms_at (trees (map tree_of ss)) b) left) s ss (row.0 a) (row_back left (trees (map tree_of ss)) ss b row.1))
-          ∙ few at (s ∷ ss) (two_there (s ∷ ss) two) (ap (λ k. nat_le k BRANCHES) (sym (length-map (s ∷ ss) is_formed)) ∙ second_of_three (nat_le 2 (length (map is_formed (s ∷ ss)))) (nat_le (length (map is_formed (s ∷ ss))) BRANCHES) (all_true (map is_formed (s ∷ ss))) f))
-
+      let row = each_back left (s ∷ ss) each (branches_all (s ∷ ss) f) k low in
+      let a = at + 1 + length (codes "par-or") + 1 in
+      let b = a + length (print (tree_of s)) in
+      ap (λ t. read_strategy names (form_at t at) (suc left)) (fold-ParOr Tree tree_layer (s ∷ ss))
+      ∙ list_back (codes "par-or") head.ParOr (tree_of s) (trees (map tree_of ss)) at left refl
+      ∙ ap (λ r. and_then r (branches at)) (front_back (read_strategy names (form_at (tree_of s) a) left) (read_each names (forms_at (trees (map tree_of ss)) b) left) s ss (row.0 a) (row_back left (trees (map tree_of ss)) ss b row.1))
+      ∙ few at (s ∷ ss) (two_there (s ∷ ss) two) (ap (λ k. nat_le k BRANCHES) (sym (length-map (s ∷ ss) is_formed)) ∙ second_of_three (nat_le 2 (length (map is_formed (s ∷ ss)))) (nat_le (length (map is_formed (s ∷ ss))) BRANCHES) (all_true (map is_formed (s ∷ ss))) f))
 
   back_ParThen : (a : Strategy) → IsReadBack a → (b : Strategy) → IsReadBack b → IsReadBack (strategy.ParThen a b)
   unfolding IsReadBack tree_of is_formed are_known depth_of head_of
@@ -206,13 +201,12 @@ module _ (names : Names) where
       let level : 1 + max (depth_of a) (depth_of b) ≤ n = subst (λ d. d ≤ n) (fold-ParThen ℕ depth_layer a b) deep in
       by_depth (max (depth_of a) (depth_of b)) n (λ m. read_strategy names (form_at (tree_of (strategy.ParThen a b)) at) m ≡ Ok (strategy.ParThen a b)) level
       (λ left low.
-          let x = at + 1 + length (codes "par-then") + 1 in
-          let y = x + length (print (tree_of a)) in
-          ap (λ t. read_strategy names (form_at t at) (suc left)) (fold-ParThen Tree tree_layer a b)
-          ∙ list_back (codes "par-then") head.ParThen (tree_of a) (cons (tree_of b) nil) at left refl
-          ∙ ap (λ r. and_then r (two_parts at strategy.ParThen)) (front_back (read_strategy names (form_at (tree_of a) x) left) (read_each names (forms_at (cons (tree_of b) nil) y) left) a (b ∷ [])
-            (ha left (and_left (is_formed a) (is_formed b) f) (and_left (are_known names a) (are_known names b) k) (omega arith) x) (row_back left (cons (tree_of b) nil) (b ∷ []) y (hb left (and_right (is_formed a) (is_formed b) f) (and_right (are_known names a) (are_known names b) k) (omega arith), tt))))
-
+      let x = at + 1 + length (codes "par-then") + 1 in
+      let y = x + length (print (tree_of a)) in
+      ap (λ t. read_strategy names (form_at t at) (suc left)) (fold-ParThen Tree tree_layer a b)
+      ∙ list_back (codes "par-then") head.ParThen (tree_of a) (cons (tree_of b) nil) at left refl
+      ∙ ap (λ r. and_then r (two_parts at strategy.ParThen)) (front_back (read_strategy names (form_at (tree_of a) x) left) (read_each names (forms_at (cons (tree_of b) nil) y) left) a (b ∷ [])
+      (ha left (and_left (is_formed a) (is_formed b) f) (and_left (are_known names a) (are_known names b) k) (omega arith) x) (row_back left (cons (tree_of b) nil) (b ∷ []) y (hb left (and_right (is_formed a) (is_formed b) f) (and_right (are_known names a) (are_known names b) k) (omega arith), tt))))
 
   back_If : (p : ProbeExpr) (a : Strategy) → IsReadBack a → (b : Strategy) → IsReadBack b → IsReadBack (strategy.If p a b)
   unfolding IsReadBack tree_of is_formed are_known depth_of head_of
@@ -222,14 +216,13 @@ module _ (names : Names) where
       let level : 1 + max (depth_of a) (depth_of b) ≤ n = subst (λ d. d ≤ n) (fold-If ℕ depth_layer p a b) deep in
       by_depth (max (depth_of a) (depth_of b)) n (λ m. read_strategy names (form_at (tree_of (strategy.If p a b)) at) m ≡ Ok (strategy.If p a b)) level
       (λ left low.
-          let x = at + 1 + length (codes "if") + 1 in
-          let y = x + length (print (probe_tree p)) in
-          ap (λ t. read_strategy names (form_at t at) (suc left)) (fold-If Tree tree_layer p a b)
-          ∙ list_back (codes "if") head.If (probe_tree p) (cons (tree_of a) (cons (tree_of b) nil)) at left refl
-          ∙ ap (λ r. and_then r (λ q. and_then (read_each names (forms_at (cons (tree_of a) (cons (tree_of b) nil)) y) left) (two_parts at (strategy.If q)))) (probe_read p (first_of_three (is_allowed_probe p) (is_formed a) (is_formed b) f) x)
-          ∙ ap (λ r. and_then r (two_parts at (strategy.If p))) (row_back left (cons (tree_of a) (cons (tree_of b) nil)) (a ∷ b ∷ []) y
-            (ha left (second_of_three (is_allowed_probe p) (is_formed a) (is_formed b) f) (and_left (are_known names a) (are_known names b) k) (omega arith), (hb left (third_of_three (is_allowed_probe p) (is_formed a) (is_formed b) f) (and_right (are_known names a) (are_known names b) k) (omega arith), tt))))
-
+      let x = at + 1 + length (codes "if") + 1 in
+      let y = x + length (print (probe_tree p)) in
+      ap (λ t. read_strategy names (form_at t at) (suc left)) (fold-If Tree tree_layer p a b)
+      ∙ list_back (codes "if") head.If (probe_tree p) (cons (tree_of a) (cons (tree_of b) nil)) at left refl
+      ∙ ap (λ r. and_then r (λ q. and_then (read_each names (forms_at (cons (tree_of a) (cons (tree_of b) nil)) y) left) (two_parts at (strategy.If q)))) (probe_read p (first_of_three (is_allowed_probe p) (is_formed a) (is_formed b) f) x)
+      ∙ ap (λ r. and_then r (two_parts at (strategy.If p))) (row_back left (cons (tree_of a) (cons (tree_of b) nil)) (a ∷ b ∷ []) y
+      (ha left (second_of_three (is_allowed_probe p) (is_formed a) (is_formed b) f) (and_left (are_known names a) (are_known names b) k) (omega arith), (hb left (third_of_three (is_allowed_probe p) (is_formed a) (is_formed b) f) (and_right (are_known names a) (are_known names b) k) (omega arith), tt))))
 
   back_When : (p : ProbeExpr) (a : Strategy) → IsReadBack a → IsReadBack (strategy.When p a)
   unfolding IsReadBack tree_of is_formed are_known depth_of head_of
@@ -239,13 +232,12 @@ module _ (names : Names) where
       let level : 1 + depth_of a ≤ n = subst (λ d. d ≤ n) (fold-When ℕ depth_layer p a) deep in
       by_depth (depth_of a) n (λ m. read_strategy names (form_at (tree_of (strategy.When p a)) at) m ≡ Ok (strategy.When p a)) level
       (λ left low.
-          let x = at + 1 + length (codes "when") + 1 in
-          let y = x + length (print (probe_tree p)) in
-          ap (λ t. read_strategy names (form_at t at) (suc left)) (fold-When Tree tree_layer p a)
-          ∙ list_back (codes "when") head.When (probe_tree p) (cons (tree_of a) nil) at left refl
-          ∙ ap (λ r. and_then r (λ q. and_then (read_each names (forms_at (cons (tree_of a) nil) y) left) (one_part at (strategy.When q)))) (probe_read p (and_left (is_allowed_probe p) (is_formed a) f) x)
-          ∙ ap (λ r. and_then r (one_part at (strategy.When p))) (row_back left (cons (tree_of a) nil) (a ∷ []) y (ha left (and_right (is_allowed_probe p) (is_formed a) f) k low, tt)))
-
+      let x = at + 1 + length (codes "when") + 1 in
+      let y = x + length (print (probe_tree p)) in
+      ap (λ t. read_strategy names (form_at t at) (suc left)) (fold-When Tree tree_layer p a)
+      ∙ list_back (codes "when") head.When (probe_tree p) (cons (tree_of a) nil) at left refl
+      ∙ ap (λ r. and_then r (λ q. and_then (read_each names (forms_at (cons (tree_of a) nil) y) left) (one_part at (strategy.When q)))) (probe_read p (and_left (is_allowed_probe p) (is_formed a) f) x)
+      ∙ ap (λ r. and_then r (one_part at (strategy.When p))) (row_back left (cons (tree_of a) nil) (a ∷ []) y (ha left (and_right (is_allowed_probe p) (is_formed a) f) k low, tt)))
 
   back_FailIf : (p : ProbeExpr) → IsReadBack (strategy.FailIf p)
   unfolding IsReadBack tree_of is_formed are_known depth_of head_of
@@ -255,12 +247,11 @@ module _ (names : Names) where
       let level : 1 + 0 ≤ n = subst (λ d. d ≤ n) (fold-FailIf ℕ depth_layer p) deep in
       by_depth (0) n (λ m. read_strategy names (form_at (tree_of (strategy.FailIf p)) at) m ≡ Ok (strategy.FailIf p)) level
       (λ left low.
-          let x = at + 1 + length (codes "fail-if") + 1 in
-          let y = x + length (print (probe_tree p)) in
-          ap (λ t. read_strategy names (form_at t at) (suc left)) (fold-FailIf Tree tree_layer p)
-          ∙ list_back (codes "fail-if") head.FailIf (probe_tree p) (nil) at left refl
-          ∙ ap (λ r. and_then r (λ q. only at (forms_at nil y) (strategy.FailIf q))) (probe_read p f x))
-
+      let x = at + 1 + length (codes "fail-if") + 1 in
+      let y = x + length (print (probe_tree p)) in
+      ap (λ t. read_strategy names (form_at t at) (suc left)) (fold-FailIf Tree tree_layer p)
+      ∙ list_back (codes "fail-if") head.FailIf (probe_tree p) (nil) at left refl
+      ∙ ap (λ r. and_then r (λ q. only at (forms_at nil y) (strategy.FailIf q))) (probe_read p f x))
 
   back_Repeat : (a : Strategy) → IsReadBack a → (turns : ℕ) → IsReadBack (strategy.Repeat a turns)
   unfolding IsReadBack tree_of is_formed are_known depth_of head_of
@@ -270,13 +261,12 @@ module _ (names : Names) where
       let level : 1 + depth_of a ≤ n = subst (λ d. d ≤ n) (fold-Repeat ℕ depth_layer a turns) deep in
       by_depth (depth_of a) n (λ m. read_strategy names (form_at (tree_of (strategy.Repeat a turns)) at) m ≡ Ok (strategy.Repeat a turns)) level
       (λ left low.
-          let x = at + 1 + length (codes "repeat") + 1 in
-          let y = x + length (print (tree_of a)) in
-          ap (λ t. read_strategy names (form_at t at) (suc left)) (fold-Repeat Tree tree_layer a turns)
-          ∙ list_back (codes "repeat") head.Repeat (tree_of a) (cons (leaf Numeral (decimal turns)) nil) at left refl
-          ∙ ap (λ r. and_then r (λ s. repeated at s (forms_at (cons (leaf Numeral (decimal turns)) nil) y))) (ha left (and_left (is_formed a) (nat_lt turns (2 ^ 32)) f) k low x)
-          ∙ ap (λ r. and_then r (λ m. only at (forms_at nil (y + 1 + length (decimal turns))) (strategy.Repeat a m))) (count_back at (2 ^ 32 - 1) turns (y + 1) (turns_small turns (and_right (is_formed a) (nat_lt turns (2 ^ 32)) f)) (turns_low turns (and_right (is_formed a) (nat_lt turns (2 ^ 32)) f))))
-
+      let x = at + 1 + length (codes "repeat") + 1 in
+      let y = x + length (print (tree_of a)) in
+      ap (λ t. read_strategy names (form_at t at) (suc left)) (fold-Repeat Tree tree_layer a turns)
+      ∙ list_back (codes "repeat") head.Repeat (tree_of a) (cons (leaf Numeral (decimal turns)) nil) at left refl
+      ∙ ap (λ r. and_then r (λ s. repeated at s (forms_at (cons (leaf Numeral (decimal turns)) nil) y))) (ha left (and_left (is_formed a) (nat_lt turns (2 ^ 32)) f) k low x)
+      ∙ ap (λ r. and_then r (λ m. only at (forms_at nil (y + 1 + length (decimal turns))) (strategy.Repeat a m))) (count_back at (2 ^ 32 - 1) turns (y + 1) (turns_small turns (and_right (is_formed a) (nat_lt turns (2 ^ 32)) f)) (turns_low turns (and_right (is_formed a) (nat_lt turns (2 ^ 32)) f))))
 
   back_TryFor : (a : Strategy) → IsReadBack a → (limit : ℕ) → IsReadBack (strategy.TryFor a limit)
   unfolding IsReadBack tree_of is_formed are_known depth_of head_of
@@ -286,13 +276,12 @@ module _ (names : Names) where
       let level : 1 + depth_of a ≤ n = subst (λ d. d ≤ n) (fold-TryFor ℕ depth_layer a limit) deep in
       by_depth (depth_of a) n (λ m. read_strategy names (form_at (tree_of (strategy.TryFor a limit)) at) m ≡ Ok (strategy.TryFor a limit)) level
       (λ left low.
-          let x = at + 1 + length (codes "try-for") + 1 in
-          let y = x + length (print (tree_of a)) in
-          ap (λ t. read_strategy names (form_at t at) (suc left)) (fold-TryFor Tree tree_layer a limit)
-          ∙ list_back (codes "try-for") head.TryFor (tree_of a) (cons (leaf Numeral (decimal limit)) nil) at left refl
-          ∙ ap (λ r. and_then r (λ s. tried at s (forms_at (cons (leaf Numeral (decimal limit)) nil) y))) (ha left (and_left (is_formed a) (nat_le limit (2 ^ 62)) f) k low x)
-          ∙ ap (λ r. and_then r (λ m. only at (forms_at nil (y + 1 + length (decimal limit))) (strategy.TryFor a m))) (count_back at (2 ^ 62) limit (y + 1) (limit_small limit (and_right (is_formed a) (nat_le limit (2 ^ 62)) f)) (and_right (is_formed a) (nat_le limit (2 ^ 62)) f)))
-
+      let x = at + 1 + length (codes "try-for") + 1 in
+      let y = x + length (print (tree_of a)) in
+      ap (λ t. read_strategy names (form_at t at) (suc left)) (fold-TryFor Tree tree_layer a limit)
+      ∙ list_back (codes "try-for") head.TryFor (tree_of a) (cons (leaf Numeral (decimal limit)) nil) at left refl
+      ∙ ap (λ r. and_then r (λ s. tried at s (forms_at (cons (leaf Numeral (decimal limit)) nil) y))) (ha left (and_left (is_formed a) (nat_le limit (2 ^ 62)) f) k low x)
+      ∙ ap (λ r. and_then r (λ m. only at (forms_at nil (y + 1 + length (decimal limit))) (strategy.TryFor a m))) (count_back at (2 ^ 62) limit (y + 1) (limit_small limit (and_right (is_formed a) (nat_le limit (2 ^ 62)) f)) (and_right (is_formed a) (nat_le limit (2 ^ 62)) f)))
 
   back_Params : (a : Strategy) → IsReadBack a → (settings : List (ParamKey × ℤ)) → IsReadBack (strategy.Params a settings)
   unfolding IsReadBack tree_of is_formed are_known depth_of head_of
@@ -302,14 +291,13 @@ module _ (names : Names) where
       let level : 1 + depth_of a ≤ n = subst (λ d. d ≤ n) (fold-Params ℕ depth_layer a settings) deep in
       by_depth (depth_of a) n (λ m. read_strategy names (form_at (tree_of (strategy.Params a settings)) at) m ≡ Ok (strategy.Params a settings)) level
       (λ left low.
-          let x = at + 1 + length (codes "using-params") + 1 in
-          let y = x + length (print (tree_of a)) in
-          ap (λ t. read_strategy names (form_at t at) (suc left)) (fold-Params Tree tree_layer a settings)
-          ∙ list_back (codes "using-params") head.UsingParams (tree_of a) (settings_trees settings) at left refl
-          ∙ ap (λ r. and_then r (λ s. and_then (read_settings (forms_at (settings_trees settings) y)) (with_settings at s))) (ha left (first_of_three (is_formed a) (nat_le 1 (length settings)) (are_settings settings) f) k low x)
-          ∙ ap (λ r. and_then r (with_settings at a)) (settings_back settings y (third_of_three (is_formed a) (nat_le 1 (length settings)) (are_settings settings) f))
-          ∙ some_settings at a settings (second_of_three (is_formed a) (nat_le 1 (length settings)) (are_settings settings) f))
-
+      let x = at + 1 + length (codes "using-params") + 1 in
+      let y = x + length (print (tree_of a)) in
+      ap (λ t. read_strategy names (form_at t at) (suc left)) (fold-Params Tree tree_layer a settings)
+      ∙ list_back (codes "using-params") head.UsingParams (tree_of a) (settings_trees settings) at left refl
+      ∙ ap (λ r. and_then r (λ s. and_then (read_settings (forms_at (settings_trees settings) y)) (with_settings at s))) (ha left (first_of_three (is_formed a) (nat_le 1 (length settings)) (are_settings settings) f) k low x)
+      ∙ ap (λ r. and_then r (with_settings at a)) (settings_back settings y (third_of_three (is_formed a) (nat_le 1 (length settings)) (are_settings settings) f))
+      ∙ some_settings at a settings (second_of_three (is_formed a) (nat_le 1 (length settings)) (are_settings settings) f))
 
   forms_back : StrategyForms IsReadBack
   forms_back = record {

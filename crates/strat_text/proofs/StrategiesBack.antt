@@ -1,33 +1,22 @@
 -- Strategies as trees of words: their texts are the written ones, and their forms are read as them.
-use Rattle.std.proofs.Common.{◌≡◌, ℕ, zero, suc, ◌+◌, ◌-◌, ◌^◌, ◌<◌, ◌≤◌, max, Bool, true, false, ◌&&◌, nat_le, ℤ, pos, negsuc, List, [], ◌∷◌, ◌++◌, length, map, Option, None, Some, Ok, Err, refl, ap, sym, subst, ◌∙◌, arith}
-use Rattle.std.specs.Prelude.{⊤, codes, decimal, nat_abs, nat_lt}
+use Rattle.std.proofs.Common.{◌≡◌, ℕ, ◌+◌, ◌^◌, ◌<◌, max, Bool, true, false, ◌&&◌, nat_le, ℤ, List, [], ◌∷◌, length, map, refl, ap, sym, subst, ◌∙◌, arith}
+use Rattle.std.specs.Prelude.{codes, decimal, nat_lt}
 use Rattle.std.proofs.lemmas.Bool.Decides.{nat_tests}
-use Rattle.std.proofs.lemmas.List.{length-map}
-use Rattle.sexp_read.specs.Lexical.{is_simple_symbol}
 use Rattle.sexp_read.specs.declared.sexp.AtomKind.TheVariants.{Symbol, Numeral, Keyword}
-use Rattle.strat_text.specs.declared.words.Head.{Head}
-use Rattle.strat_text.specs.declared.words.Head.TheVariants as head
-use Rattle.strat_text.specs.declared.probe.ProbeExpr.{ProbeExpr}
 use Rattle.strat_text.specs.declared.strategy.ParamKey.{ParamKey}
 use Rattle.strat_text.specs.declared.strategy.ParamKey.TheVariants as key
 use Rattle.strat_text.specs.declared.strategy.Strategy.{Strategy}
-use Rattle.strat_text.specs.declared.strategy.Strategy.TheVariants as strategy
 use Rattle.strat_text.specs.declared.strategy.Strategy.TheOpen.{Strategy-F}
 use Rattle.strat_text.specs.declared.strategy.Strategy.TheFolds.{fold-Strategy}
 use Rattle.strat_text.specs.declared.strategy.TheConstants.{BRANCHES}
-use Rattle.strat_text.specs.Allowed.{allowed_layer, is_formed, is_allowed_probe, all_true, are_settings, greatest, depth_layer, depth_of}
-use Rattle.strat_text.specs.Form.{Form, Forms, atom, list, none, more, numeral_of}
-use Rattle.strat_text.specs.Grammar.{Names, is_known}
-use Rattle.strat_text.specs.Known.{known_layer, are_known}
-use Rattle.strat_text.specs.Nesting.{number_nesting, settings_nesting, probe_nesting, nesting_layer, nesting}
-use Rattle.strat_text.specs.Number.{is_within, number_of}
-use Rattle.strat_text.specs.Reading.{read_probe, read_settings, read_strategy, read_each, strategy_form, strategy_atom, limited, repeated, tried, only}
-use Rattle.strat_text.specs.Spelled.{spaced, form_text, number_text, key_text, setting_texts, spelled_probe, strategy_layer, spelled}
-use Rattle.strat_text.specs.Words.{head_of, key_of}
+use Rattle.strat_text.specs.Allowed.{allowed_layer, is_formed, is_allowed_probe, all_true, are_settings, greatest}
+use Rattle.strat_text.specs.Nesting.{settings_nesting, probe_nesting, nesting_layer, nesting}
+use Rattle.strat_text.specs.Number.{is_within}
+use Rattle.strat_text.specs.Spelled.{key_text, setting_texts, spelled_probe, strategy_layer, spelled}
 use Rattle.strat_text.proofs.Layers.{fold-Prim, fold-Then, fold-OrElse, fold-ParOr, fold-ParThen, fold-If, fold-When, fold-FailIf, fold-Repeat, fold-Params, fold-TryFor, EachStrategy, StrategyForms, by_StrategyForms}
-use Rattle.strat_text.proofs.Numerals.{and_left, and_right, symbol_word, numeral_word, keyword_word, numeral-decimal, value-decimal, within_small}
-use Rattle.strat_text.proofs.ProbesBack.{trees, number_tree, probe_tree, RowText, branch_text, number_told, probe_text, number_good, probe_good, RowNests, branch_nests, number_nests, probe_nests, greatest_one, greatest_two, number_read, probe_read}
-use Rattle.strat_text.proofs.Trees.{Tree, leaf, branch, Trees, nil, cons, print, prints, IsWord, Good, AreGood, nests, most, form_at, forms_at}
+use Rattle.strat_text.proofs.Numerals.{and_left, and_right, symbol_word, numeral_word, keyword_word, numeral-decimal, within_small}
+use Rattle.strat_text.proofs.ProbesBack.{trees, number_tree, probe_tree, RowText, branch_text, number_told, probe_text, number_good, probe_good, RowNests, branch_nests, number_nests, probe_nests, greatest_one, greatest_two}
+use Rattle.strat_text.proofs.Trees.{Tree, leaf, branch, Trees, nil, cons, print, IsWord, Good, AreGood, nests, most}
 
 true_false : true ≡ false → ⊥
 true_false e = cc

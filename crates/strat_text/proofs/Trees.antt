@@ -1,12 +1,12 @@
 -- Texts as trees of words: their tokens, the s-expression that these spell, and its form.
-use Rattle.std.proofs.Common.{◌≡◌, ℕ, suc, ◌+◌, ◌-◌, ◌≤◌, ◌<◌, max, Bool, true, false, ◌&&◌, cond, nat_le, List, [], ◌∷◌, ◌++◌, length, take, drop, map, Option, None, Some, refl, ap, sym, subst, ◌∙◌, arith, append_assoc, append-nil, length-append}
+use Rattle.std.proofs.Common.{◌≡◌, ℕ, suc, ◌+◌, ◌-◌, ◌≤◌, max, true, nat_le, List, [], ◌∷◌, ◌++◌, length, take, drop, map, Some, refl, ap, sym, subst, ◌∙◌, arith, append_assoc, length-append}
 use Rattle.std.specs.Prelude.{⊤}
 use Rattle.std.proofs.Math.Seq.{take-append_seam, drop-append_seam}
 use Rattle.std.proofs.lemmas.List.{drop-drop, length-drop}
 use Rattle.std.proofs.lemmas.Bool.Decides.{nat_tests}
 use Rattle.std.specs.List.{list_all, prefix_len}
 use Rattle.sexp_read.specs.declared.sexp.AtomKind.{AtomKind}
-use Rattle.sexp_read.specs.declared.sexp.AtomKind.TheVariants.{Symbol, Numeral, Keyword}
+use Rattle.sexp_read.specs.declared.sexp.AtomKind.TheVariants.{Symbol}
 use Rattle.sexp_read.specs.declared.sexp.Sexp.{Sexp}
 use Rattle.sexp_read.specs.declared.sexp.Sexp.TheVariants as sexp
 use Rattle.sexp_read.specs.declared.sexp.Sexp.TheOpen.{Sexp-F}

@@ -20,8 +20,8 @@ pub closed : {A E : Type 0} (r : Result A E) (old begun now new s word : List �
     → OnOk r (new ≡ now ++ 41 ∷ []) → OnOk r (new ≡ old ++ s)
 closed r old begun now new s word texts is begins inner =
     on_ok_weaker r (λ last.
-        last ∙ ap (λ (bs : List ℕ). bs ++ 41 ∷ []) (inner ∙ ap (λ (bs : List ℕ). bs ++ spaced texts) begins ∙ append_assoc old (40 ∷ word) (spaced texts))
-        ∙ append_assoc old (40 ∷ (word ++ spaced texts)) (41 ∷ []) ∙ ap (λ (bs : List ℕ). old ++ 40 ∷ bs) (append_assoc word (spaced texts) (41 ∷ [])) ∙ ap (λ (bs : List ℕ). old ++ bs) (sym is))
+    last ∙ ap (λ (bs : List ℕ). bs ++ 41 ∷ []) (inner ∙ ap (λ (bs : List ℕ). bs ++ spaced texts) begins ∙ append_assoc old (40 ∷ word) (spaced texts))
+    ∙ append_assoc old (40 ∷ (word ++ spaced texts)) (41 ∷ []) ∙ ap (λ (bs : List ℕ). old ++ 40 ∷ bs) (append_assoc word (spaced texts) (41 ∷ [])) ∙ ap (λ (bs : List ℕ). old ++ bs) (sym is))
 
 -- a form of two parts, and of one
 

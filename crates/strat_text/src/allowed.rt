@@ -34,7 +34,10 @@ fn fits_within(strategy: &Strategy, limit: usize) -> bool
         Strategy::OrElse(parts) => both(parts.len() >= 2, all_fit(parts.as_slice(), left)),
         Strategy::ParOr(parts) => both(is_branches(parts.len()), all_fit(parts.as_slice(), left)),
         Strategy::ParThen(first, second) => {
-            both(fits_within(first.get(), left), fits_within(second.get(), left))
+            both(
+                fits_within(first.get(), left),
+                fits_within(second.get(), left),
+            )
         }
         Strategy::If(probe, yes, no) => {
             let parts = both(fits_within(yes.get(), left), fits_within(no.get(), left));
@@ -44,7 +47,10 @@ fn fits_within(strategy: &Strategy, limit: usize) -> bool
         Strategy::FailIf(probe) => is_allowed_probe(probe),
         Strategy::Repeat(part, turns) => both(fits_within(part.get(), left), *turns < 4294967296),
         Strategy::Params(part, settings) => {
-            both(fits_within(part.get(), left), are_settings(settings.as_slice()))
+            both(
+                fits_within(part.get(), left),
+                are_settings(settings.as_slice()),
+            )
         }
         Strategy::TryFor(part, most) => {
             both(fits_within(part.get(), left), *most <= 4611686018427387904)

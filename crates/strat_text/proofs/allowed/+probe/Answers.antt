@@ -1,8 +1,7 @@
-use Rattle.std.proofs.Common.{rules, SFits, ◌≡◌, true, ◌&&◌, length, refl, ap, sym, ◌∙◌, nat_le}
+use Rattle.std.proofs.Common.{rules, SFits, ◌≡◌, ◌&&◌, length, ap, sym, ◌∙◌, nat_le}
 use Rattle.std.specs.Int.{w128}
 use Rattle.std.specs.List.{list_all}
 use Rattle.std.proofs.lemmas.List.{take_all}
-use Rattle.strat_text.specs.declared.probe.ProbeExpr.TheVariants as probe
 use Rattle.strat_text.specs.Allowed as spec
 use Rattle.strat_text.proofs.Fits.{allowed-words, allowed-Num, allowed-Lt, allowed-Le, allowed-Gt, allowed-Ge, allowed-Eq, allowed-And, allowed-Or, allowed-Not, all_grows}
 use Rattle.strat_text.proofs.allowed.+probe.Goals as goal
