@@ -6,3 +6,4 @@ pub mod Reading
 pub mod Faults
 pub mod Spelled
 pub mod Allowed
+pub mod Given

@@ -30,6 +30,21 @@ and_then (Err e) next = Err e
 abbrev pub in_front : {A : Type 0} → Result A StratError → Result (List A) StratError → Result (List A) StratError
 in_front first rest = and_then first (λ a. and_then rest (λ more. Ok (a ∷ more)))
 
+-- the one item; the two items; the items, of which there are at least so many
+abbrev pub one_of : {A : Type 0} → ℕ → List A → Result A StratError
+one_of at [] = Err (BadStrategy at)
+one_of at (a ∷ []) = Ok a
+one_of at (a ∷ b ∷ rest) = Err (BadStrategy at)
+
+abbrev pub two_of : {A : Type 0} → ℕ → List A → Result (A × A) StratError
+two_of at [] = Err (BadStrategy at)
+two_of at (a ∷ []) = Err (BadStrategy at)
+two_of at (a ∷ b ∷ []) = Ok (a, b)
+two_of at (a ∷ b ∷ c ∷ rest) = Err (BadStrategy at)
+
+abbrev pub least_of : {A : Type 0} → ℕ → ℕ → List A → Result (List A) StratError
+least_of least at items = if nat_le least (length items) then Ok items else Err (BadStrategy at)
+
 -- the form ends here
 abbrev pub only : {A : Type 0} → ℕ → Forms → A → Result A StratError
 only at none a = Ok a
@@ -55,34 +70,30 @@ probe_atom kind.Bits text at = Err (BadStrategy at)
 probe_atom kind.Text text at = Err (BadStrategy at)
 probe_atom kind.Keyword text at = Err (BadStrategy at)
 
--- a form of one probe, of two, of one or more
-abbrev pub one_probe : ℕ → (ProbeExpr → ProbeExpr) → List ProbeExpr → Result ProbeExpr StratError
-one_probe at make [] = Err (BadStrategy at)
-one_probe at make (a ∷ []) = Ok (make a)
-one_probe at make (a ∷ b ∷ rest) = Err (BadStrategy at)
-
-abbrev pub two_probes : ℕ → (ProbeExpr → ProbeExpr → ProbeExpr) → List ProbeExpr → Result ProbeExpr StratError
-two_probes at make [] = Err (BadStrategy at)
-two_probes at make (a ∷ []) = Err (BadStrategy at)
-two_probes at make (a ∷ b ∷ []) = Ok (make a b)
-two_probes at make (a ∷ b ∷ c ∷ rest) = Err (BadStrategy at)
-
-abbrev pub some_probes : ℕ → (List ProbeExpr → ProbeExpr) → List ProbeExpr → Result ProbeExpr StratError
-some_probes at make [] = Err (BadStrategy at)
-some_probes at make (a ∷ rest) = Ok (make (a ∷ rest))
+-- an operator over what its arguments are read as
+abbrev pub probe_combined : ℕ → Operator → List ProbeExpr → Result ProbeExpr StratError
+probe_combined at operator.Minus parts = Err (BadStrategy at)
+probe_combined at operator.Lt parts = and_then (two_of at parts) (λ both. Ok (probe.Lt both.0 both.1))
+probe_combined at operator.Le parts = and_then (two_of at parts) (λ both. Ok (probe.Le both.0 both.1))
+probe_combined at operator.Gt parts = and_then (two_of at parts) (λ both. Ok (probe.Gt both.0 both.1))
+probe_combined at operator.Ge parts = and_then (two_of at parts) (λ both. Ok (probe.Ge both.0 both.1))
+probe_combined at operator.Eq parts = and_then (two_of at parts) (λ both. Ok (probe.Eq both.0 both.1))
+probe_combined at operator.And parts = and_then (least_of 1 at parts) (λ all. Ok (probe.And all))
+probe_combined at operator.Or parts = and_then (least_of 1 at parts) (λ all. Ok (probe.Or all))
+probe_combined at operator.Not parts = and_then (one_of at parts) (λ part. Ok (probe.Not part))
 
 -- a form of a probe by its word, from its arguments and what they are read as
 abbrev pub probe_form : ℕ → Forms → Result (List ProbeExpr) StratError → Option Operator → Result ProbeExpr StratError
 probe_form at args parts None = Err (BadStrategy at)
 probe_form at args parts (Some operator.Minus) = probe_number at (minus_of args)
-probe_form at args parts (Some operator.Lt) = and_then parts (two_probes at probe.Lt)
-probe_form at args parts (Some operator.Le) = and_then parts (two_probes at probe.Le)
-probe_form at args parts (Some operator.Gt) = and_then parts (two_probes at probe.Gt)
-probe_form at args parts (Some operator.Ge) = and_then parts (two_probes at probe.Ge)
-probe_form at args parts (Some operator.Eq) = and_then parts (two_probes at probe.Eq)
-probe_form at args parts (Some operator.And) = and_then parts (some_probes at probe.And)
-probe_form at args parts (Some operator.Or) = and_then parts (some_probes at probe.Or)
-probe_form at args parts (Some operator.Not) = and_then parts (one_probe at probe.Not)
+probe_form at args parts (Some operator.Lt) = and_then parts (probe_combined at operator.Lt)
+probe_form at args parts (Some operator.Le) = and_then parts (probe_combined at operator.Le)
+probe_form at args parts (Some operator.Gt) = and_then parts (probe_combined at operator.Gt)
+probe_form at args parts (Some operator.Ge) = and_then parts (probe_combined at operator.Ge)
+probe_form at args parts (Some operator.Eq) = and_then parts (probe_combined at operator.Eq)
+probe_form at args parts (Some operator.And) = and_then parts (probe_combined at operator.And)
+probe_form at args parts (Some operator.Or) = and_then parts (probe_combined at operator.Or)
+probe_form at args parts (Some operator.Not) = and_then parts (probe_combined at operator.Not)
 
 unfoldable mutual
   -- a form as a probe
@@ -161,23 +172,9 @@ strategy_atom names kind.Bits text at = Err (BadStrategy at)
 strategy_atom names kind.Text text at = Err (BadStrategy at)
 strategy_atom names kind.Keyword text at = Err (BadStrategy at)
 
--- a form of two strategies, of two or more, of two to so many
-abbrev pub two_parts : ℕ → (Strategy → Strategy → Strategy) → List Strategy → Result Strategy StratError
-two_parts at make [] = Err (BadStrategy at)
-two_parts at make (a ∷ []) = Err (BadStrategy at)
-two_parts at make (a ∷ b ∷ []) = Ok (make a b)
-two_parts at make (a ∷ b ∷ c ∷ rest) = Err (BadStrategy at)
-
-abbrev pub one_part : ℕ → (Strategy → Strategy) → List Strategy → Result Strategy StratError
-one_part at make [] = Err (BadStrategy at)
-one_part at make (a ∷ []) = Ok (make a)
-one_part at make (a ∷ b ∷ rest) = Err (BadStrategy at)
-
-abbrev pub some_parts : ℕ → (List Strategy → Strategy) → List Strategy → Result Strategy StratError
-some_parts at make parts = if nat_le 2 (length parts) then Ok (make parts) else Err (BadStrategy at)
-
+-- branches, of which there are not too many
 abbrev pub branches : ℕ → List Strategy → Result Strategy StratError
-branches at parts = if nat_le 2 (length parts) && nat_le (length parts) BRANCHES then Ok (strategy.ParOr parts) else Err (BadStrategy at)
+branches at parts = if nat_le (length parts) BRANCHES then Ok (strategy.ParOr parts) else Err (BadStrategy at)
 
 -- a numeral up to a number
 abbrev pub limited : ℕ → ℕ → Form → Option ℕ → Result ℕ StratError
@@ -198,12 +195,12 @@ tried at s (more form forms) = and_then (limited at (2 ^ 62) form (numeral_of fo
 -- and as strategies.
 abbrev pub strategy_form : ℕ → Form → Forms → Result Strategy StratError → Result (List Strategy) StratError → Option Head → Result Strategy StratError
 strategy_form at arg args part parts None = Err (BadStrategy at)
-strategy_form at arg args part parts (Some head.Then) = and_then (in_front part parts) (some_parts at strategy.Then)
-strategy_form at arg args part parts (Some head.OrElse) = and_then (in_front part parts) (some_parts at strategy.OrElse)
-strategy_form at arg args part parts (Some head.ParOr) = and_then (in_front part parts) (branches at)
-strategy_form at arg args part parts (Some head.ParThen) = and_then (in_front part parts) (two_parts at strategy.ParThen)
-strategy_form at arg args part parts (Some head.If) = and_then (read_probe arg) (λ p. and_then parts (two_parts at (strategy.If p)))
-strategy_form at arg args part parts (Some head.When) = and_then (read_probe arg) (λ p. and_then parts (one_part at (strategy.When p)))
+strategy_form at arg args part parts (Some head.Then) = and_then (and_then (in_front part parts) (least_of 2 at)) (λ all. Ok (strategy.Then all))
+strategy_form at arg args part parts (Some head.OrElse) = and_then (and_then (in_front part parts) (least_of 2 at)) (λ all. Ok (strategy.OrElse all))
+strategy_form at arg args part parts (Some head.ParOr) = and_then (and_then (in_front part parts) (least_of 2 at)) (branches at)
+strategy_form at arg args part parts (Some head.ParThen) = and_then (and_then (in_front part parts) (two_of at)) (λ both. Ok (strategy.ParThen both.0 both.1))
+strategy_form at arg args part parts (Some head.If) = and_then (read_probe arg) (λ p. and_then (and_then parts (two_of at)) (λ both. Ok (strategy.If p both.0 both.1)))
+strategy_form at arg args part parts (Some head.When) = and_then (read_probe arg) (λ p. and_then (and_then parts (one_of at)) (λ one. Ok (strategy.When p one)))
 strategy_form at arg args part parts (Some head.FailIf) = and_then (read_probe arg) (λ p. only at args (strategy.FailIf p))
 strategy_form at arg args part parts (Some head.Repeat) = and_then part (λ s. repeated at s args)
 strategy_form at arg args part parts (Some head.UsingParams) = and_then part (λ s. and_then (read_settings args) (with_settings at s))

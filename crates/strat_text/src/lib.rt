@@ -5,8 +5,12 @@
 #![tactic(auto)]
 
 mod error;
+mod form;
 mod name;
+mod number;
+mod parts;
 mod probe;
+mod read_probe;
 mod strategy;
 mod words;
 
