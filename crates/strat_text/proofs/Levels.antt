@@ -1,12 +1,14 @@
 -- What s-expressions are as forms.
-use Rattle.std.proofs.Common.{◌≡◌, ◌≤◌, ℕ, List, [], ◌∷◌, length, None, ap, sym, refl, arith, ◌∙◌}
+use Rattle.std.proofs.Common.{◌≡◌, ◌≤◌, ℕ, List, [], ◌∷◌, length, None, Err, ap, sym, refl, arith, ◌∙◌}
 use Rattle.sexp_read.specs.declared.sexp.AtomKind.{AtomKind}
 use Rattle.sexp_read.specs.declared.sexp.Sexp.{Sexp}
 use Rattle.sexp_read.specs.declared.sexp.Sexp.TheVariants as sexp
 use Rattle.sexp_read.specs.declared.sexp.Sexp.TheOpen.{Sexp-F}
 use Rattle.sexp_read.specs.declared.sexp.Sexp.TheFolds.{fold-roll-Sexp}
 use Rattle.sexp_read.specs.Atoms.{text_at}
+use Rattle.strat_text.specs.declared.error.StratError.TheVariants.{BadStrategy}
 use Rattle.strat_text.specs.Number.{minus_of}
+use Rattle.strat_text.specs.Reading.{nothing}
 use Rattle.strat_text.specs.Form.{Form, atom, list, form_of, forms_of, form_layer, some_text}
 
 pub form_of_atom : (bytes : List ℕ) (is : AtomKind) (start end : ℕ) → form_of bytes (sexp.Atom is start end) ≡ atom is (some_text (text_at bytes start end)) start
@@ -22,3 +24,8 @@ pub minus_of_more : (bytes : List ℕ) (items : List Sexp) → 2 ≤ length item
 minus_of_more bytes [] h = absurd (omega arith)
 minus_of_more bytes (a ∷ []) h = absurd (omega arith)
 minus_of_more bytes (a ∷ b ∷ rest) h = refl
+
+-- something stands here
+pub nothing_more : (bytes : List ℕ) (items : List Sexp) (at : ℕ) → 1 ≤ length items → nothing at (forms_of bytes items) ≡ Err (BadStrategy at)
+nothing_more bytes [] at h = absurd (omega arith)
+nothing_more bytes (a ∷ rest) at h = refl

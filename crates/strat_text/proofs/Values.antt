@@ -35,6 +35,6 @@ narrow-some n m some = by (nat_lt n (2 ^ 128)) refl
   where
     by : (b : Bool) → nat_lt n (2 ^ 128) ≡ b → (m ≡ n) × (m < 2 ^ 128)
     by true e = let below : n < 2 ^ 128 = grind (arith, nat_tests) in
-      let same : Some n ≡ Some m = sym (rw e refl) ∙ some in
-      let one : m ≡ n = cc in (one, rw one below)
+        let same : Some n ≡ Some m = sym (rw e refl) ∙ some in
+        let one : m ≡ n = cc in (one, rw one below)
     by false e = absurd (some_none m (sym some ∙ rw e refl))

@@ -5,7 +5,8 @@ use Rattle.strat_text.specs.declared.error.StratError.TheVariants.{UnknownReduce
 use Rattle.strat_text.specs.declared.number.Number.{Number}
 use Rattle.strat_text.specs.declared.number.Number.TheVariants.{Absent, Wide, Fits}
 use Rattle.strat_text.specs.Number.{is_wide}
-use Rattle.strat_text.specs.Reading.{and_then}
+use Rattle.strat_text.specs.declared.strategy.ParamKey.{ParamKey}
+use Rattle.strat_text.specs.Reading.{and_then, appended}
 
 -- the answer is this one, or want of memory
 abbrev pub Gives : {A : Type 0} → Result A StratError → Result A StratError → Type 0
@@ -19,6 +20,10 @@ Gives (Err (Memory cause)) reading = ⊤
 -- items in front of those that are read
 abbrev pub after : {A : Type 0} → List A → Result (List A) StratError → Result (List A) StratError
 after front rest = and_then rest (λ items. Ok (front ++ items))
+
+-- settings in front of those that are read
+abbrev pub behind_settings : Option (List (ParamKey × ℤ)) → Result (Option (List (ParamKey × ℤ))) StratError → Result (Option (List (ParamKey × ℤ))) StratError
+behind_settings front rest = and_then rest (λ settings. Ok (appended front settings))
 
 -- a number, if it is in the range of 128 bits without sign
 abbrev pub narrow : ℕ → Option ℕ

@@ -6,15 +6,19 @@
 
 mod error;
 mod form;
+mod forms;
 mod name;
 mod number;
 mod parts;
 mod probe;
+mod read;
 mod read_probe;
+mod settings;
 mod strategy;
 mod words;
 
 pub use error::StratError;
 pub use name::ReducerName;
 pub use probe::ProbeExpr;
+pub use read::read_strategy;
 pub use strategy::{ParamKey, Strategy};

@@ -8,8 +8,8 @@ ghost use Rattle.strat_text.specs.Given.{Gives, seen};
 
 use crate::error::StratError;
 use crate::form::{minus, operator_in, text_at};
-use crate::parts::{at_least, one, two};
 use crate::number::{Number, positive};
+use crate::parts::{at_least, one, two};
 use crate::probe::ProbeExpr;
 use crate::words::{Operator, probe_named};
 use sexp_read::{AtomKind, Sexp};

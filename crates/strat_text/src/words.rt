@@ -139,7 +139,8 @@ pub(crate) fn key_of(word: &[u8]) -> Option<ParamKey>
     }
 }
 
-fn same(a: &[u8], b: &[u8]) -> bool
+/// Whether two texts are the same.
+pub(crate) fn same(a: &[u8], b: &[u8]) -> bool
     ensures { result ≡ bytes_eq a.now b.now }
 {
     a == b

@@ -15,8 +15,8 @@ pub read_probe-returns-in-Atom : goal.read_probe-returns-in-Atom
 unfolding read_probe
 read_probe-returns-in-Atom t c =
     record {
-  probe = rw (c.in-Atom.is, form_of_atom c.args.bytes.now c.in-Atom.kind c.in-Atom.start c.in-Atom.end, sym c.text_at.ensures) c.atom.ensures.probe;
-}
+      probe = rw (c.in-Atom.is, form_of_atom c.args.bytes.now c.in-Atom.kind c.in-Atom.start c.in-Atom.end, sym c.text_at.ensures) c.atom.ensures.probe;
+    }
 
 pub read_probe-returns-in-List : goal.read_probe-returns-in-List
 read_probe-returns-in-List t c = record {
@@ -28,8 +28,8 @@ read_args-returns-in_err-probe t c =
     let bytes = c.args.bytes.now in
     record {
       probes =
-        each_fault (λ x. read_probe (form_of bytes x)) (λ xs. read_probes (forms_of bytes xs)) (probes_each bytes) c.loop-at.probes c.args.items.now c.loop-at.at c.index-items-at.result (read_probes (behind (forms_of bytes c.args.items.now)))
-        c.in_err-probe.field-0.0 c.from_residual.result c.loop-at-test.true c.index-items-at.is c.loop-at.invariant.read c.in_err-probe.ensures.probe c.from_residual.ensures.1;
+          each_fault (λ x. read_probe (form_of bytes x)) (λ xs. read_probes (forms_of bytes xs)) (probes_each bytes) c.loop-at.probes c.args.items.now c.loop-at.at c.index-items-at.result (read_probes (behind (forms_of bytes c.args.items.now)))
+          c.in_err-probe.field-0.0 c.from_residual.result c.loop-at-test.true c.index-items-at.is c.loop-at.invariant.read c.in_err-probe.ensures.probe c.from_residual.ensures.1;
     }
 
 pub read_args-loop-at-preserved : goal.read_args-loop-at-preserved
@@ -37,7 +37,7 @@ read_args-loop-at-preserved t c =
     let bytes = c.args.bytes.now in
     record {
       read = rw c.in_ok-push.ensures.ok
-        (each_more (λ x. read_probe (form_of bytes x)) (λ xs. read_probes (forms_of bytes xs)) (probes_each bytes) c.loop-at.probes c.args.items.now c.loop-at.at c.index-items-at.result c.in_ok-probe.probe
+          (each_more (λ x. read_probe (form_of bytes x)) (λ xs. read_probes (forms_of bytes xs)) (probes_each bytes) c.loop-at.probes c.args.items.now c.loop-at.at c.index-items-at.result c.in_ok-probe.probe
           (read_probes (behind (forms_of bytes c.args.items.now))) c.loop-at-test.true c.index-items-at.is c.loop-at.invariant.read c.in_ok-probe.ensures.probe);
       first = omega arith;
     }
@@ -47,7 +47,7 @@ read_args-returns t c =
     let bytes = c.args.bytes.now in
     record {
       probes = each_done (λ x. read_probe (form_of bytes x)) (λ xs. read_probes (forms_of bytes xs)) (probes_each bytes) c.loop-at.probes c.args.items.now c.loop-at.at (read_probes (behind (forms_of bytes c.args.items.now)))
-        c.loop-at-test.false c.loop-at.invariant.read;
+          c.loop-at-test.false c.loop-at.invariant.read;
     }
 
 pub read_form-returns-in_default : goal.read_form-returns-in_default
@@ -65,7 +65,7 @@ read_form-returns-in_err-parts t c =
     let no : c.in-Some.operator ≡ operator.Minus → ⊥ = λ is. true≢false (sym (c.is_minus.ensures.no is) ∙ c.if-is_minus.false) in
     record {
       probe = rw (form_combined forms c.args.at c.in-Some.operator (sym c.in-Some.ensures) no)
-        (gives_handed c.in_err-parts.field-0.0 (read_probes (behind forms)) (probe_combined c.args.at c.in-Some.operator) c.from_residual.result c.from_residual.ensures.1 c.in_err-parts.ensures.probes);
+          (gives_handed c.in_err-parts.field-0.0 (read_probes (behind forms)) (probe_combined c.args.at c.in-Some.operator) c.from_residual.result c.from_residual.ensures.1 c.in_err-parts.ensures.probes);
     }
 
 pub read_form-returns : goal.read_form-returns
@@ -74,5 +74,5 @@ read_form-returns t c =
     let no : c.in-Some.operator ≡ operator.Minus → ⊥ = λ is. true≢false (sym (c.is_minus.ensures.no is) ∙ c.if-is_minus.false) in
     record {
       probe = rw (form_combined forms c.args.at c.in-Some.operator (sym c.in-Some.ensures) no)
-        (gives_next c.in_ok-parts.parts (read_probes (behind forms)) (probe_combined c.args.at c.in-Some.operator) c.combined.result c.in_ok-parts.ensures.probes c.combined.ensures.probe);
+          (gives_next c.in_ok-parts.parts (read_probes (behind forms)) (probe_combined c.args.at c.in-Some.operator) c.combined.result c.in_ok-parts.ensures.probes c.combined.ensures.probe);
     }
