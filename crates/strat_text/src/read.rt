@@ -1,5 +1,5 @@
 //! Strategies read from s-expressions.
-ghost use Rattle.std.specs.Prelude.{◌≡◌};
+ghost use Rattle.std.specs.Prelude.{◌≡◌, Ok, IfOk};
 ghost use Rattle.std.specs.List.{list_any};
 ghost use Rattle.std.specs.Option.{option_copied};
 ghost use Rattle.std.specs.Str.{bytes_eq};
@@ -24,6 +24,8 @@ use std::alloc::Global;
 
 /// The strategy that an s-expression of these bytes spells, or the first of its faults in the order word, arguments from left to right,
 /// shape. Where a list of names is given, a name has to be one of them.
+///
+/// The calls for probes nest as deep as the s-expression does, those for strategies at most 64 deep.
 pub fn read_strategy(
     alloc: Global,
     bytes: &[u8],
@@ -31,6 +33,8 @@ pub fn read_strategy(
     reducers: Option<&[ReducerName]>,
 ) -> Result<Strategy, StratError>
     ensures read { Gives result (spec.read_strategy (option_copied reducers.entry) (form.form_of bytes.now sexp.now) DEPTH) }
+    ensures spelled { IfOk result (grammar.Spells (option_copied reducers.entry) DEPTH (form.form_of bytes.now sexp.now)) }
+    ensures complete { (s : Strategy) → grammar.Spells (option_copied reducers.entry) DEPTH (form.form_of bytes.now sexp.now) s → Gives result (Ok s) }
 {
     read_at(alloc, bytes, sexp, reducers, DEPTH)
 }
