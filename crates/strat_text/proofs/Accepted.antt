@@ -266,7 +266,7 @@ mutual
   spelled_read names n form s (by_par_then left a b first second level is one two same) =
       ap (read_strategy names form) level
       ∙ same_strategy (all_read names head.ParThen form (more a (more b none)) left (first ∷ second ∷ []) par_then_of (strategy.ParThen first second) (λ at arg rest part each. refl) is
-        (each_two names a b left first second (spelled_read names left a first one) (spelled_read names left b second two)) (omega arith) refl) same
+      (each_two names a b left first second (spelled_read names left a first one) (spelled_read names left b second two)) (omega arith) refl) same
   spelled_read names n form s (by_if left a b c p chosen other level is test one two same) =
       ap (read_strategy names form) level
       ∙ same_strategy (if_read names form a b c left p chosen other is (spelled_probe_read a p test) (each_two names b c left chosen other (spelled_read names left b chosen one) (spelled_read names left c other two))) same
@@ -282,7 +282,7 @@ mutual
   spelled_read names n form s (by_params left a args part settings level is one inner some same) =
       ap (read_strategy names form) level
       ∙ same_strategy (part_read names head.UsingParams form a args left part (strategy.Params part settings) params_of (λ at first rest. refl) is (spelled_read names left a part one)
-        (params_fit is.place args part settings (spelled_settings_read args settings inner) some)) same
+      (params_fit is.place args part settings (spelled_settings_read args settings inner) some)) same
   spelled_read names n form s (by_try_for left a b part limit level is one number fits same) =
       ap (read_strategy names form) level
       ∙ same_strategy (part_read names head.TryFor form a (more b none) left part (strategy.TryFor part limit) try_for_of (λ at first rest. refl) is (spelled_read names left a part one) (try_for_fits is.place b part limit number fits)) same

@@ -75,9 +75,9 @@ least_are least at items all h = by (nat_le least (length items)) refl
   where
     by : (b : Bool) → nat_le least (length items) ≡ b → Least least items all
     by true e =
-      let same : items ≡ all = same_answer items all (sym (rw e refl) ∙ h) in
-      let some : least ≤ length items = grind (arith, nat_tests) in
-      record { same = same; some = subst (λ xs. least ≤ length xs) same some }
+        let same : items ≡ all = same_answer items all (sym (rw e refl) ∙ h) in
+        let some : least ≤ length items = grind (arith, nat_tests) in
+        record { same = same; some = subst (λ xs. least ≤ length xs) same some }
     by false e = no_answer (BadStrategy at) all (sym (rw e refl) ∙ h)
 
 -- a number in its range
@@ -217,9 +217,9 @@ limited_is at most form (Some m) n is h = by (nat_le m most) refl
   where
     by : (b : Bool) → nat_le m most ≡ b → IsLimited form most n
     by true e =
-      let same : m ≡ n = same_answer m n (sym (rw e refl) ∙ h) in
-      let low : m ≤ most = grind (arith, nat_tests) in
-      record { is = is ∙ ap (λ x. Some x) same; low = subst (λ x. x ≤ most) same low }
+        let same : m ≡ n = same_answer m n (sym (rw e refl) ∙ h) in
+        let low : m ≤ most = grind (arith, nat_tests) in
+        record { is = is ∙ ap (λ x. Some x) same; low = subst (λ x. x ≤ most) same low }
     by false e = no_answer (BadStrategy (place_of form)) n (sym (rw e refl) ∙ h)
 
 -- nothing stands behind
@@ -253,17 +253,17 @@ value_is text at value found of z (Some y) named is h = by (is_within found y) r
   where
     by : (b : Bool) → is_within found y ≡ b → IsSetting (atom kind.Keyword text at) value of z
     by true e =
-      let same : (found, y) ≡ (of, z) = same_setting (found, y) (of, z) (sym (rw e refl) ∙ h) in
-      let key : found ≡ of = ap (λ (s : ParamKey × ℤ). s.0) same in
-      let num : y ≡ z = ap (λ (s : ParamKey × ℤ). s.1) same in
-      record {
-        word = text;
-        place = at;
-        is = refl;
-        named = named ∙ ap (λ x. Some x) key;
-        number = is ∙ ap (λ x. Some x) num;
-        fits = sym (ap (λ (s : ParamKey × ℤ). is_within s.0 s.1) same) ∙ e;
-      }
+        let same : (found, y) ≡ (of, z) = same_setting (found, y) (of, z) (sym (rw e refl) ∙ h) in
+        let key : found ≡ of = ap (λ (s : ParamKey × ℤ). s.0) same in
+        let num : y ≡ z = ap (λ (s : ParamKey × ℤ). s.1) same in
+        record {
+          word = text;
+          place = at;
+          is = refl;
+          named = named ∙ ap (λ x. Some x) key;
+          number = is ∙ ap (λ x. Some x) num;
+          fits = sym (ap (λ (s : ParamKey × ℤ). is_within s.0 s.1) same) ∙ e;
+        }
     by false e = no_answer (BadStrategy (place_of value)) (Some (of, z)) (sym (rw e refl) ∙ h)
 
 keyword_is : (text : List ℕ) (at : ℕ) (value : Form) (of : ParamKey) (z : ℤ) (found : Option ParamKey) → key_of text ≡ found → and_then (key_read at found) (read_value value) ≡ Ok (Some (of, z)) →
@@ -305,7 +305,7 @@ settings_spelled_more key value rest settings inner h =
     let first = setting_is key value all.of all.z (outer.reads ∙ ap (λ x. Ok x) all.first) in
     let others = inner all.others (behind.reads ∙ ap (λ x. Ok x) all.behind) in
     subst (SpellSettings (more key (more value rest))) all.are
-      (subst (λ k. SpellSettings (more k (more value rest)) ((all.of, all.z) ∷ all.others)) (sym first.is) (more_settings first.word first.place value all.of all.z first.named first.number first.fits others))
+    (subst (λ k. SpellSettings (more k (more value rest)) ((all.of, all.z) ∷ all.others)) (sym first.is) (more_settings first.word first.place value all.of all.z first.named first.number first.fits others))
 
 key_alone : (key : Form) (settings : List (ParamKey × ℤ)) → and_then (read_key key) (λ _. Ok None) ≡ Ok (Some settings) → SpellSettings (more key none) settings
 key_alone key settings h = let outer = both (read_key key) (λ _. Ok None) (Some settings) h in no_setting settings outer.goes
@@ -454,9 +454,9 @@ module _ (names : Names) (first arg : Form) (args : Forms) (at left : ℕ) (part
       let outer = both (in_front (read_strategy names arg left) (read_each names args left)) (par_then_of at) s h in
       let made = both (two_of at outer.first) (λ pair. Ok (strategy.ParThen pair.0 pair.1)) s outer.goes in
       let two = two_parts names left (more arg args) made.first.0 made.first.1
-        (all_spelled (made.first.0 ∷ made.first.1 ∷ []) (outer.reads ∙ ap (λ x. Ok x) (two_are at outer.first made.first made.reads))) in
+      (all_spelled (made.first.0 ∷ made.first.1 ∷ []) (outer.reads ∙ ap (λ x. Ok x) (two_are at outer.first made.first made.reads))) in
       by_par_then left two.first two.second made.first.0 made.first.1 refl (starts head.ParThen (more two.first (more two.second none)) two.are is) two.one two.two
-        (sym (same_answer (strategy.ParThen made.first.0 made.first.1) s made.goes))
+      (sym (same_answer (strategy.ParThen made.first.0 made.first.1) s made.goes))
 
   if_spelled : (s : Strategy) → head_in first ≡ Some head.If → and_then (read_probe arg) (λ p. and_then (read_each names args left) (if_of at p)) ≡ Ok s → Spells names (suc left) (list (more first (more arg args)) at) s
   if_spelled s is h =
@@ -465,7 +465,7 @@ module _ (names : Names) (first arg : Form) (args : Forms) (at left : ℕ) (part
       let made = both (two_of at outer.first) (λ pair. Ok (strategy.If test.first pair.0 pair.1)) s outer.goes in
       let two = two_parts names left args made.first.0 made.first.1 (each (made.first.0 ∷ made.first.1 ∷ []) (outer.reads ∙ ap (λ x. Ok x) (two_are at outer.first made.first made.reads))) in
       by_if left arg two.first two.second test.first made.first.0 made.first.1 refl (starts head.If (more arg (more two.first (more two.second none))) (ap (more arg) two.are) is)
-        (read_probe_spelled arg test.first test.reads) two.one two.two (sym (same_answer (strategy.If test.first made.first.0 made.first.1) s made.goes))
+      (read_probe_spelled arg test.first test.reads) two.one two.two (sym (same_answer (strategy.If test.first made.first.0 made.first.1) s made.goes))
 
   when_spelled : (s : Strategy) → head_in first ≡ Some head.When → and_then (read_probe arg) (λ p. and_then (read_each names args left) (when_of at p)) ≡ Ok s → Spells names (suc left) (list (more first (more arg args)) at) s
   when_spelled s is h =
@@ -474,7 +474,7 @@ module _ (names : Names) (first arg : Form) (args : Forms) (at left : ℕ) (part
       let made = both (one_of at outer.first) (λ one. Ok (strategy.When test.first one)) s outer.goes in
       let one = one_part names left args made.first (each (made.first ∷ []) (outer.reads ∙ ap (λ x. Ok x) (one_is at outer.first made.first made.reads))) in
       by_when left arg one.first test.first made.first refl (starts head.When (more arg (more one.first none)) (ap (more arg) one.are) is) (read_probe_spelled arg test.first test.reads) one.one
-        (sym (same_answer (strategy.When test.first made.first) s made.goes))
+      (sym (same_answer (strategy.When test.first made.first) s made.goes))
 
   fail_if_spelled : (s : Strategy) → head_in first ≡ Some head.FailIf → and_then (read_probe arg) (fail_if_of at args) ≡ Ok s → Spells names (suc left) (list (more first (more arg args)) at) s
   fail_if_spelled s is h =
@@ -488,7 +488,7 @@ module _ (names : Names) (first arg : Form) (args : Forms) (at left : ℕ) (part
       let made = both (read_settings args) (with_settings at outer.first) s outer.goes in
       let some = settings_are at outer.first made.first s made.goes in
       by_params left arg args outer.first some.settings refl (starts head.UsingParams (more arg args) refl is) (part outer.first outer.reads)
-        (read_settings_spelled args some.settings (made.reads ∙ ap (λ x. Ok x) some.are)) some.some some.same
+      (read_settings_spelled args some.settings (made.reads ∙ ap (λ x. Ok x) some.are)) some.some some.same
 
   repeat_spelled : (s : Strategy) → head_in first ≡ Some head.Repeat → and_then (read_strategy names arg left) (repeat_of at args) ≡ Ok s → Spells names (suc left) (list (more first (more arg args)) at) s
   repeat_spelled s is h = let outer = both (read_strategy names arg left) (repeat_of at args) s h in by outer.first outer.reads (repeat_args at args outer.first s outer.goes)

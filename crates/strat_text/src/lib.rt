@@ -22,3 +22,6 @@ pub use name::ReducerName;
 pub use probe::ProbeExpr;
 pub use read::read_strategy;
 pub use strategy::{ParamKey, Strategy};
+
+#[cfg(test)]
+mod tests;
