@@ -1,6 +1,7 @@
 -- Probes as trees of words: their texts are the written ones, and their forms are read as them.
 use Rattle.std.proofs.Common.{◌≡◌, ℕ, suc, ◌+◌, ◌^◌, ◌<◌, max, Bool, true, false, not, nat_le, ℤ, pos, negsuc, List, [], ◌∷◌, ◌++◌, length, map, Some, Ok, refl, ap, sym, subst, ◌∙◌, arith}
 use Rattle.std.specs.Prelude.{⊤, codes, decimal, nat_abs, neg_ℤ}
+use Rattle.std.proofs.lemmas.Bool.Decides.{nat_tests}
 use Rattle.sexp_read.specs.declared.sexp.AtomKind.TheVariants.{Symbol, Numeral}
 use Rattle.strat_text.specs.declared.words.Operator.{Operator}
 use Rattle.strat_text.specs.declared.words.Operator.TheVariants as operator
@@ -11,7 +12,7 @@ use Rattle.strat_text.specs.declared.probe.ProbeExpr.TheFolds.{fold-ProbeExpr}
 use Rattle.strat_text.specs.Allowed.{allowed_probe_layer, is_allowed_probe, all_true, greatest}
 use Rattle.strat_text.specs.Nesting.{number_nesting, probe_nesting_layer, probe_nesting}
 use Rattle.strat_text.specs.Number.{is_wide, number_of}
-use Rattle.strat_text.specs.Reading.{read_probe, read_probes, probe_number, probe_form}
+use Rattle.strat_text.specs.Reading.{and_then, least_of, read_probe, read_probes, probe_number, probe_form}
 use Rattle.strat_text.specs.Spelled.{spaced, form_text, number_text, probe_layer, spelled_probe}
 use Rattle.strat_text.specs.Words.{operator_of, probe_named}
 use Rattle.strat_text.proofs.Layers.{fold-Size, fold-NumExprs, fold-Depth, fold-NumConsts, fold-IsPropositional, fold-IsCanonical, fold-IsBounded, fold-Is01, fold-MaxBits, fold-Num, fold-Lt, fold-Le, fold-Gt, fold-Ge, fold-Eq, fold-And, fold-Or, fold-Not, EachProbe, ProbeForms, by_ProbeForms}
@@ -303,6 +304,12 @@ each_read (p ∷ ps) h all = (h.0 (and_left (is_allowed_probe p) (all_true (map 
 within_read : (z : ℤ) (at : ℕ) → is_wide z ≡ false → probe_number at (Some z) ≡ Ok (probe.Num z)
 within_read z at h = rw h refl
 
+one_there : (p : ProbeExpr) (ps : List ProbeExpr) → nat_le 1 (length (p ∷ ps)) ≡ true
+one_there p ps = grind (arith, nat_tests)
+
+some : (at : ℕ) (make : List ProbeExpr → ProbeExpr) (ps : List ProbeExpr) → nat_le 1 (length ps) ≡ true → and_then (least_of 1 at ps) (λ all. Ok (make all)) ≡ Ok (make ps)
+some at make ps h = rw h refl
+
 read_And : (ps : List ProbeExpr) → EachProbe IsReadBack ps → IsReadBack (probe.And ps)
 unfolding IsReadBack probe_tree is_allowed_probe operator_of
 read_And [] each = λ h at. let none_there = sym (fold-And Bool allowed_probe_layer []) ∙ h in absurd (true_false (sym none_there))
@@ -310,6 +317,7 @@ read_And (p ∷ ps) each = λ h at.
     let all = and_right (nat_le 1 (length (map is_allowed_probe (p ∷ ps)))) (all_true (map is_allowed_probe (p ∷ ps))) (sym (fold-And Bool allowed_probe_layer (p ∷ ps)) ∙ h) in
     ap (λ t. read_probe (form_at t at)) (fold-And Tree probe_tree_layer (p ∷ ps))
     ∙ form_read (codes "and") operator.And (trees (map probe_tree (p ∷ ps))) (p ∷ ps) at refl (each_read (p ∷ ps) each all)
+    ∙ some at probe.And (p ∷ ps) (one_there p ps)
 
 read_Or : (ps : List ProbeExpr) → EachProbe IsReadBack ps → IsReadBack (probe.Or ps)
 unfolding IsReadBack probe_tree is_allowed_probe operator_of
@@ -318,6 +326,7 @@ read_Or (p ∷ ps) each = λ h at.
     let all = and_right (nat_le 1 (length (map is_allowed_probe (p ∷ ps)))) (all_true (map is_allowed_probe (p ∷ ps))) (sym (fold-Or Bool allowed_probe_layer (p ∷ ps)) ∙ h) in
     ap (λ t. read_probe (form_at t at)) (fold-Or Tree probe_tree_layer (p ∷ ps))
     ∙ form_read (codes "or") operator.Or (trees (map probe_tree (p ∷ ps))) (p ∷ ps) at refl (each_read (p ∷ ps) each all)
+    ∙ some at probe.Or (p ∷ ps) (one_there p ps)
 
 probe_forms : ProbeForms IsReadBack
 unfolding IsReadBack probe_tree is_allowed_probe read_probe operator_of probe_named

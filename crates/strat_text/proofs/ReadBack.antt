@@ -19,7 +19,7 @@ use Rattle.strat_text.specs.Form.{atom, place_of, numeral_of}
 use Rattle.strat_text.specs.Grammar.{Names, is_known}
 use Rattle.strat_text.specs.Known.{known_layer, are_known}
 use Rattle.strat_text.specs.Number.{is_within}
-use Rattle.strat_text.specs.Reading.{and_then, in_front, read_key, read_value, value_read, key_read, read_settings, with_settings, read_strategy, read_each, strategy_form, strategy_atom, some_parts, two_parts, one_part, branches, limited, repeated, tried, only}
+use Rattle.strat_text.specs.Reading.{and_then, in_front, read_key, read_value, value_read, key_read, read_settings, with_settings, read_strategy, read_each, strategy_form, strategy_atom, least_of, then_of, or_else_of, par_or_of, par_then_of, if_of, when_of, fail_if_of, limited, repeat_of, try_for_of, params_of, only}
 use Rattle.strat_text.specs.Spelled.{key_text}
 use Rattle.strat_text.specs.Words.{head_of, key_of}
 use Rattle.strat_text.proofs.Layers.{fold-Prim, fold-Then, fold-OrElse, fold-ParOr, fold-ParThen, fold-If, fold-When, fold-FailIf, fold-Repeat, fold-Params, fold-TryFor, EachStrategy, StrategyForms, by_StrategyForms}
@@ -75,10 +75,10 @@ turns_low n h = grind (arith, nat_tests)
 front_back : (r : Result Strategy StratError) (rs : Result (List Strategy) StratError) (s : Strategy) (ss : List Strategy) → r ≡ Ok s → rs ≡ Ok ss → in_front r rs ≡ Ok (s ∷ ss)
 front_back r rs s ss first rest = rw (first, rest) refl
 
-many : (at : ℕ) (make : List Strategy → Strategy) (ss : List Strategy) → nat_le 2 (length ss) ≡ true → some_parts at make ss ≡ Ok (make ss)
+many : (at : ℕ) (make : List Strategy → Strategy) (ss : List Strategy) → nat_le 2 (length ss) ≡ true → and_then (least_of 2 at ss) (λ all. Ok (make all)) ≡ Ok (make ss)
 many at make ss h = rw h refl
 
-few : (at : ℕ) (ss : List Strategy) → nat_le 2 (length ss) ≡ true → nat_le (length ss) BRANCHES ≡ true → branches at ss ≡ Ok (strategy.ParOr ss)
+few : (at : ℕ) (ss : List Strategy) → nat_le 2 (length ss) ≡ true → nat_le (length ss) BRANCHES ≡ true → par_or_of at ss ≡ Ok (strategy.ParOr ss)
 few at ss h k = rw (h, k) refl
 
 name_back : (names : Names) (name : List ℕ) (at : ℕ) → is_simple_symbol name ≡ true → is_known names name ≡ true → strategy_atom names Symbol name at ≡ Ok (strategy.Prim name)
@@ -154,7 +154,7 @@ module _ (names : Names) where
       let b = a + length (print (tree_of s)) in
       ap (λ t. read_strategy names (form_at t at) (suc left)) (fold-Then Tree tree_layer (s ∷ ss))
       ∙ list_back (codes "then") head.Then (tree_of s) (trees (map tree_of ss)) at left refl
-      ∙ ap (λ r. and_then r (some_parts at strategy.Then)) (front_back (read_strategy names (form_at (tree_of s) a) left) (read_each names (forms_at (trees (map tree_of ss)) b) left) s ss (row.0 a) (row_back left (trees (map tree_of ss)) ss b row.1))
+      ∙ ap (λ r. and_then r (then_of at)) (front_back (read_strategy names (form_at (tree_of s) a) left) (read_each names (forms_at (trees (map tree_of ss)) b) left) s ss (row.0 a) (row_back left (trees (map tree_of ss)) ss b row.1))
       ∙ many at strategy.Then (s ∷ ss) (two_there (s ∷ ss) two))
 
   back_OrElse : (ss : List Strategy) → EachStrategy IsReadBack ss → IsReadBack (strategy.OrElse ss)
@@ -172,7 +172,7 @@ module _ (names : Names) where
       let b = a + length (print (tree_of s)) in
       ap (λ t. read_strategy names (form_at t at) (suc left)) (fold-OrElse Tree tree_layer (s ∷ ss))
       ∙ list_back (codes "or-else") head.OrElse (tree_of s) (trees (map tree_of ss)) at left refl
-      ∙ ap (λ r. and_then r (some_parts at strategy.OrElse)) (front_back (read_strategy names (form_at (tree_of s) a) left) (read_each names (forms_at (trees (map tree_of ss)) b) left) s ss (row.0 a) (row_back left (trees (map tree_of ss)) ss b row.1))
+      ∙ ap (λ r. and_then r (or_else_of at)) (front_back (read_strategy names (form_at (tree_of s) a) left) (read_each names (forms_at (trees (map tree_of ss)) b) left) s ss (row.0 a) (row_back left (trees (map tree_of ss)) ss b row.1))
       ∙ many at strategy.OrElse (s ∷ ss) (two_there (s ∷ ss) two))
 
   back_ParOr : (ss : List Strategy) → EachStrategy IsReadBack ss → IsReadBack (strategy.ParOr ss)
@@ -190,7 +190,7 @@ module _ (names : Names) where
       let b = a + length (print (tree_of s)) in
       ap (λ t. read_strategy names (form_at t at) (suc left)) (fold-ParOr Tree tree_layer (s ∷ ss))
       ∙ list_back (codes "par-or") head.ParOr (tree_of s) (trees (map tree_of ss)) at left refl
-      ∙ ap (λ r. and_then r (branches at)) (front_back (read_strategy names (form_at (tree_of s) a) left) (read_each names (forms_at (trees (map tree_of ss)) b) left) s ss (row.0 a) (row_back left (trees (map tree_of ss)) ss b row.1))
+      ∙ ap (λ r. and_then r (par_or_of at)) (front_back (read_strategy names (form_at (tree_of s) a) left) (read_each names (forms_at (trees (map tree_of ss)) b) left) s ss (row.0 a) (row_back left (trees (map tree_of ss)) ss b row.1))
       ∙ few at (s ∷ ss) (two_there (s ∷ ss) two) (ap (λ k. nat_le k BRANCHES) (sym (length-map (s ∷ ss) is_formed)) ∙ second_of_three (nat_le 2 (length (map is_formed (s ∷ ss)))) (nat_le (length (map is_formed (s ∷ ss))) BRANCHES) (all_true (map is_formed (s ∷ ss))) f))
 
   back_ParThen : (a : Strategy) → IsReadBack a → (b : Strategy) → IsReadBack b → IsReadBack (strategy.ParThen a b)
@@ -205,7 +205,7 @@ module _ (names : Names) where
       let y = x + length (print (tree_of a)) in
       ap (λ t. read_strategy names (form_at t at) (suc left)) (fold-ParThen Tree tree_layer a b)
       ∙ list_back (codes "par-then") head.ParThen (tree_of a) (cons (tree_of b) nil) at left refl
-      ∙ ap (λ r. and_then r (two_parts at strategy.ParThen)) (front_back (read_strategy names (form_at (tree_of a) x) left) (read_each names (forms_at (cons (tree_of b) nil) y) left) a (b ∷ [])
+      ∙ ap (λ r. and_then r (par_then_of at)) (front_back (read_strategy names (form_at (tree_of a) x) left) (read_each names (forms_at (cons (tree_of b) nil) y) left) a (b ∷ [])
       (ha left (and_left (is_formed a) (is_formed b) f) (and_left (are_known names a) (are_known names b) k) (omega arith) x) (row_back left (cons (tree_of b) nil) (b ∷ []) y (hb left (and_right (is_formed a) (is_formed b) f) (and_right (are_known names a) (are_known names b) k) (omega arith), tt))))
 
   back_If : (p : ProbeExpr) (a : Strategy) → IsReadBack a → (b : Strategy) → IsReadBack b → IsReadBack (strategy.If p a b)
@@ -220,8 +220,8 @@ module _ (names : Names) where
       let y = x + length (print (probe_tree p)) in
       ap (λ t. read_strategy names (form_at t at) (suc left)) (fold-If Tree tree_layer p a b)
       ∙ list_back (codes "if") head.If (probe_tree p) (cons (tree_of a) (cons (tree_of b) nil)) at left refl
-      ∙ ap (λ r. and_then r (λ q. and_then (read_each names (forms_at (cons (tree_of a) (cons (tree_of b) nil)) y) left) (two_parts at (strategy.If q)))) (probe_read p (first_of_three (is_allowed_probe p) (is_formed a) (is_formed b) f) x)
-      ∙ ap (λ r. and_then r (two_parts at (strategy.If p))) (row_back left (cons (tree_of a) (cons (tree_of b) nil)) (a ∷ b ∷ []) y
+      ∙ ap (λ r. and_then r (λ q. and_then (read_each names (forms_at (cons (tree_of a) (cons (tree_of b) nil)) y) left) (if_of at q))) (probe_read p (first_of_three (is_allowed_probe p) (is_formed a) (is_formed b) f) x)
+      ∙ ap (λ r. and_then r (if_of at p)) (row_back left (cons (tree_of a) (cons (tree_of b) nil)) (a ∷ b ∷ []) y
       (ha left (second_of_three (is_allowed_probe p) (is_formed a) (is_formed b) f) (and_left (are_known names a) (are_known names b) k) (omega arith), (hb left (third_of_three (is_allowed_probe p) (is_formed a) (is_formed b) f) (and_right (are_known names a) (are_known names b) k) (omega arith), tt))))
 
   back_When : (p : ProbeExpr) (a : Strategy) → IsReadBack a → IsReadBack (strategy.When p a)
@@ -236,8 +236,8 @@ module _ (names : Names) where
       let y = x + length (print (probe_tree p)) in
       ap (λ t. read_strategy names (form_at t at) (suc left)) (fold-When Tree tree_layer p a)
       ∙ list_back (codes "when") head.When (probe_tree p) (cons (tree_of a) nil) at left refl
-      ∙ ap (λ r. and_then r (λ q. and_then (read_each names (forms_at (cons (tree_of a) nil) y) left) (one_part at (strategy.When q)))) (probe_read p (and_left (is_allowed_probe p) (is_formed a) f) x)
-      ∙ ap (λ r. and_then r (one_part at (strategy.When p))) (row_back left (cons (tree_of a) nil) (a ∷ []) y (ha left (and_right (is_allowed_probe p) (is_formed a) f) k low, tt)))
+      ∙ ap (λ r. and_then r (λ q. and_then (read_each names (forms_at (cons (tree_of a) nil) y) left) (when_of at q))) (probe_read p (and_left (is_allowed_probe p) (is_formed a) f) x)
+      ∙ ap (λ r. and_then r (when_of at p)) (row_back left (cons (tree_of a) nil) (a ∷ []) y (ha left (and_right (is_allowed_probe p) (is_formed a) f) k low, tt)))
 
   back_FailIf : (p : ProbeExpr) → IsReadBack (strategy.FailIf p)
   unfolding IsReadBack tree_of is_formed are_known depth_of head_of
@@ -251,7 +251,7 @@ module _ (names : Names) where
       let y = x + length (print (probe_tree p)) in
       ap (λ t. read_strategy names (form_at t at) (suc left)) (fold-FailIf Tree tree_layer p)
       ∙ list_back (codes "fail-if") head.FailIf (probe_tree p) (nil) at left refl
-      ∙ ap (λ r. and_then r (λ q. only at (forms_at nil y) (strategy.FailIf q))) (probe_read p f x))
+      ∙ ap (λ r. and_then r (fail_if_of at (forms_at nil y))) (probe_read p f x))
 
   back_Repeat : (a : Strategy) → IsReadBack a → (turns : ℕ) → IsReadBack (strategy.Repeat a turns)
   unfolding IsReadBack tree_of is_formed are_known depth_of head_of
@@ -265,8 +265,8 @@ module _ (names : Names) where
       let y = x + length (print (tree_of a)) in
       ap (λ t. read_strategy names (form_at t at) (suc left)) (fold-Repeat Tree tree_layer a turns)
       ∙ list_back (codes "repeat") head.Repeat (tree_of a) (cons (leaf Numeral (decimal turns)) nil) at left refl
-      ∙ ap (λ r. and_then r (λ s. repeated at s (forms_at (cons (leaf Numeral (decimal turns)) nil) y))) (ha left (and_left (is_formed a) (nat_lt turns (2 ^ 32)) f) k low x)
-      ∙ ap (λ r. and_then r (λ m. only at (forms_at nil (y + 1 + length (decimal turns))) (strategy.Repeat a m))) (count_back at (2 ^ 32 - 1) turns (y + 1) (turns_small turns (and_right (is_formed a) (nat_lt turns (2 ^ 32)) f)) (turns_low turns (and_right (is_formed a) (nat_lt turns (2 ^ 32)) f))))
+      ∙ ap (λ r. and_then r (repeat_of at (forms_at (cons (leaf Numeral (decimal turns)) nil) y))) (ha left (and_left (is_formed a) (nat_lt turns (2 ^ 32)) f) k low x)
+      ∙ ap (λ r. and_then r (λ m. only at (forms_at nil (y + 1 + length (decimal turns))) (strategy.Repeat a m))) (count_back at 4294967295 turns (y + 1) (turns_small turns (and_right (is_formed a) (nat_lt turns (2 ^ 32)) f)) (turns_low turns (and_right (is_formed a) (nat_lt turns (2 ^ 32)) f))))
 
   back_TryFor : (a : Strategy) → IsReadBack a → (limit : ℕ) → IsReadBack (strategy.TryFor a limit)
   unfolding IsReadBack tree_of is_formed are_known depth_of head_of
@@ -280,8 +280,8 @@ module _ (names : Names) where
       let y = x + length (print (tree_of a)) in
       ap (λ t. read_strategy names (form_at t at) (suc left)) (fold-TryFor Tree tree_layer a limit)
       ∙ list_back (codes "try-for") head.TryFor (tree_of a) (cons (leaf Numeral (decimal limit)) nil) at left refl
-      ∙ ap (λ r. and_then r (λ s. tried at s (forms_at (cons (leaf Numeral (decimal limit)) nil) y))) (ha left (and_left (is_formed a) (nat_le limit (2 ^ 62)) f) k low x)
-      ∙ ap (λ r. and_then r (λ m. only at (forms_at nil (y + 1 + length (decimal limit))) (strategy.TryFor a m))) (count_back at (2 ^ 62) limit (y + 1) (limit_small limit (and_right (is_formed a) (nat_le limit (2 ^ 62)) f)) (and_right (is_formed a) (nat_le limit (2 ^ 62)) f)))
+      ∙ ap (λ r. and_then r (try_for_of at (forms_at (cons (leaf Numeral (decimal limit)) nil) y))) (ha left (and_left (is_formed a) (nat_le limit (2 ^ 62)) f) k low x)
+      ∙ ap (λ r. and_then r (λ m. only at (forms_at nil (y + 1 + length (decimal limit))) (strategy.TryFor a m))) (count_back at 4611686018427387904 limit (y + 1) (limit_small limit (and_right (is_formed a) (nat_le limit (2 ^ 62)) f)) (and_right (is_formed a) (nat_le limit (2 ^ 62)) f)))
 
   back_Params : (a : Strategy) → IsReadBack a → (settings : List (ParamKey × ℤ)) → IsReadBack (strategy.Params a settings)
   unfolding IsReadBack tree_of is_formed are_known depth_of head_of
@@ -295,7 +295,7 @@ module _ (names : Names) where
       let y = x + length (print (tree_of a)) in
       ap (λ t. read_strategy names (form_at t at) (suc left)) (fold-Params Tree tree_layer a settings)
       ∙ list_back (codes "using-params") head.UsingParams (tree_of a) (settings_trees settings) at left refl
-      ∙ ap (λ r. and_then r (λ s. and_then (read_settings (forms_at (settings_trees settings) y)) (with_settings at s))) (ha left (first_of_three (is_formed a) (nat_le 1 (length settings)) (are_settings settings) f) k low x)
+      ∙ ap (λ r. and_then r (params_of at (forms_at (settings_trees settings) y))) (ha left (first_of_three (is_formed a) (nat_le 1 (length settings)) (are_settings settings) f) k low x)
       ∙ ap (λ r. and_then r (with_settings at a)) (settings_back settings y (third_of_three (is_formed a) (nat_le 1 (length settings)) (are_settings settings) f))
       ∙ some_settings at a settings (second_of_three (is_formed a) (nat_le 1 (length settings)) (are_settings settings) f))
 

@@ -45,6 +45,11 @@ abbrev pub place_of : Form → ℕ
 place_of (atom is text place) = place
 place_of (list items place) = place
 
+-- the forms behind the first one
+abbrev pub behind : Forms → Forms
+behind none = none
+behind (more form forms) = forms
+
 -- the text of a simple symbol
 abbrev pub symbol_text : AtomKind → List ℕ → Option (List ℕ)
 symbol_text kind.Symbol text = Some text
@@ -65,17 +70,30 @@ abbrev pub value_from : ℕ → List ℕ → ℕ
 value_from value [] = value
 value_from value (digit ∷ digits) = value_from (value * 10 + (digit - 48)) digits
 
--- the number of a numeral
+-- the digits of a numeral
+abbrev pub digits_in : AtomKind → List ℕ → Option (List ℕ)
+digits_in kind.Symbol text = None
+digits_in kind.Quoted text = None
+digits_in kind.Numeral text = Some text
+digits_in kind.Decimal text = None
+digits_in kind.Bits text = None
+digits_in kind.Text text = None
+digits_in kind.Keyword text = None
+
+-- the digits of a form that is a numeral
+abbrev pub digits_of : Form → Option (List ℕ)
+digits_of (atom is text place) = digits_in is text
+digits_of (list items place) = None
+
+-- the number of digits, where there are some
+abbrev pub value_of : Option (List ℕ) → Option ℕ
+value_of None = None
+value_of (Some digits) = Some (value_from 0 digits)
+
+-- the number of an atom that is a numeral
 abbrev pub numeral_value : AtomKind → List ℕ → Option ℕ
-numeral_value kind.Symbol text = None
-numeral_value kind.Quoted text = None
-numeral_value kind.Numeral text = Some (value_from 0 text)
-numeral_value kind.Decimal text = None
-numeral_value kind.Bits text = None
-numeral_value kind.Text text = None
-numeral_value kind.Keyword text = None
+numeral_value is text = value_of (digits_in is text)
 
 -- the number of a form that is a numeral
 abbrev pub numeral_of : Form → Option ℕ
-numeral_of (atom is text place) = numeral_value is text
-numeral_of (list items place) = None
+numeral_of form = value_of (digits_of form)

@@ -89,8 +89,8 @@ mutual
     by_par_then : {n : ℕ} {form : Form} {s : Strategy} (left : ℕ) (a b : Form) (first second : Strategy) →
         n ≡ suc left → IsStrategyForm head.ParThen form (more a (more b none)) → Spells names left a first → Spells names left b second → s ≡ strategy.ParThen first second →
         Spells names n form s
-    by_if : {n : ℕ} {form : Form} {s : Strategy} (left : ℕ) (a b c : Form) (p : ProbeExpr) (yes no : Strategy) →
-        n ≡ suc left → IsStrategyForm head.If form (more a (more b (more c none))) → SpellsProbe a p → Spells names left b yes → Spells names left c no → s ≡ strategy.If p yes no →
+    by_if : {n : ℕ} {form : Form} {s : Strategy} (left : ℕ) (a b c : Form) (p : ProbeExpr) (chosen other : Strategy) →
+        n ≡ suc left → IsStrategyForm head.If form (more a (more b (more c none))) → SpellsProbe a p → Spells names left b chosen → Spells names left c other → s ≡ strategy.If p chosen other →
         Spells names n form s
     by_when : {n : ℕ} {form : Form} {s : Strategy} (left : ℕ) (a b : Form) (p : ProbeExpr) (part : Strategy) →
         n ≡ suc left → IsStrategyForm head.When form (more a (more b none)) → SpellsProbe a p → Spells names left b part → s ≡ strategy.When p part → Spells names n form s

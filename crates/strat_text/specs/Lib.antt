@@ -10,3 +10,4 @@ pub mod Nesting
 pub mod Known
 pub mod Back
 pub mod Within
+pub mod Given

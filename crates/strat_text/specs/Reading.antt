@@ -1,6 +1,6 @@
 -- What a form is read as: a strategy, or the first fault. The grammar and the list of faults say what that is; this is
 -- the same once more, as the reader finds it.
-use Rattle.std.specs.Prelude.{ℕ, zero, suc, ◌-◌, ◌^◌, ◌&&◌, not, if◌then◌else◌, nat_le, ℤ, List, [], ◌∷◌, length, Option, None, Some, Result, Ok, Err}
+use Rattle.std.specs.Prelude.{⊤, ℕ, zero, suc, not, if◌then◌else◌, nat_le, ℤ, List, [], ◌∷◌, ◌++◌, length, Option, None, Some, Result, Ok, Err}
 use Rattle.sexp_read.specs.Lexical.{is_simple_symbol}
 use Rattle.sexp_read.specs.declared.sexp.AtomKind.{AtomKind}
 use Rattle.sexp_read.specs.declared.sexp.AtomKind.TheVariants as kind
@@ -30,10 +30,28 @@ and_then (Err e) next = Err e
 abbrev pub in_front : {A : Type 0} → Result A StratError → Result (List A) StratError → Result (List A) StratError
 in_front first rest = and_then first (λ a. and_then rest (λ more. Ok (a ∷ more)))
 
+-- the one item; the two items; the items, of which there are at least so many
+abbrev pub one_of : {A : Type 0} → ℕ → List A → Result A StratError
+one_of at [] = Err (BadStrategy at)
+one_of at (a ∷ []) = Ok a
+one_of at (a ∷ b ∷ rest) = Err (BadStrategy at)
+
+abbrev pub two_of : {A : Type 0} → ℕ → List A → Result (A × A) StratError
+two_of at [] = Err (BadStrategy at)
+two_of at (a ∷ []) = Err (BadStrategy at)
+two_of at (a ∷ b ∷ []) = Ok (a, b)
+two_of at (a ∷ b ∷ c ∷ rest) = Err (BadStrategy at)
+
+abbrev pub least_of : {A : Type 0} → ℕ → ℕ → List A → Result (List A) StratError
+least_of least at items = if nat_le least (length items) then Ok items else Err (BadStrategy at)
+
 -- the form ends here
+abbrev pub nothing : ℕ → Forms → Result ⊤ StratError
+nothing at none = Ok tt
+nothing at (more form forms) = Err (BadStrategy at)
+
 abbrev pub only : {A : Type 0} → ℕ → Forms → A → Result A StratError
-only at none a = Ok a
-only at (more form forms) a = Err (BadStrategy at)
+only at forms a = and_then (nothing at forms) (λ _. Ok a)
 
 -- a number in its range; another one is told at a place
 abbrev pub probe_number : ℕ → Option ℤ → Result ProbeExpr StratError
@@ -55,34 +73,30 @@ probe_atom kind.Bits text at = Err (BadStrategy at)
 probe_atom kind.Text text at = Err (BadStrategy at)
 probe_atom kind.Keyword text at = Err (BadStrategy at)
 
--- a form of one probe, of two, of one or more
-abbrev pub one_probe : ℕ → (ProbeExpr → ProbeExpr) → List ProbeExpr → Result ProbeExpr StratError
-one_probe at make [] = Err (BadStrategy at)
-one_probe at make (a ∷ []) = Ok (make a)
-one_probe at make (a ∷ b ∷ rest) = Err (BadStrategy at)
-
-abbrev pub two_probes : ℕ → (ProbeExpr → ProbeExpr → ProbeExpr) → List ProbeExpr → Result ProbeExpr StratError
-two_probes at make [] = Err (BadStrategy at)
-two_probes at make (a ∷ []) = Err (BadStrategy at)
-two_probes at make (a ∷ b ∷ []) = Ok (make a b)
-two_probes at make (a ∷ b ∷ c ∷ rest) = Err (BadStrategy at)
-
-abbrev pub some_probes : ℕ → (List ProbeExpr → ProbeExpr) → List ProbeExpr → Result ProbeExpr StratError
-some_probes at make [] = Err (BadStrategy at)
-some_probes at make (a ∷ rest) = Ok (make (a ∷ rest))
+-- an operator over what its arguments are read as
+abbrev pub probe_combined : ℕ → Operator → List ProbeExpr → Result ProbeExpr StratError
+probe_combined at operator.Minus parts = Err (BadStrategy at)
+probe_combined at operator.Lt parts = and_then (two_of at parts) (λ both. Ok (probe.Lt both.0 both.1))
+probe_combined at operator.Le parts = and_then (two_of at parts) (λ both. Ok (probe.Le both.0 both.1))
+probe_combined at operator.Gt parts = and_then (two_of at parts) (λ both. Ok (probe.Gt both.0 both.1))
+probe_combined at operator.Ge parts = and_then (two_of at parts) (λ both. Ok (probe.Ge both.0 both.1))
+probe_combined at operator.Eq parts = and_then (two_of at parts) (λ both. Ok (probe.Eq both.0 both.1))
+probe_combined at operator.And parts = and_then (least_of 1 at parts) (λ all. Ok (probe.And all))
+probe_combined at operator.Or parts = and_then (least_of 1 at parts) (λ all. Ok (probe.Or all))
+probe_combined at operator.Not parts = and_then (one_of at parts) (λ part. Ok (probe.Not part))
 
 -- a form of a probe by its word, from its arguments and what they are read as
 abbrev pub probe_form : ℕ → Forms → Result (List ProbeExpr) StratError → Option Operator → Result ProbeExpr StratError
 probe_form at args parts None = Err (BadStrategy at)
 probe_form at args parts (Some operator.Minus) = probe_number at (minus_of args)
-probe_form at args parts (Some operator.Lt) = and_then parts (two_probes at probe.Lt)
-probe_form at args parts (Some operator.Le) = and_then parts (two_probes at probe.Le)
-probe_form at args parts (Some operator.Gt) = and_then parts (two_probes at probe.Gt)
-probe_form at args parts (Some operator.Ge) = and_then parts (two_probes at probe.Ge)
-probe_form at args parts (Some operator.Eq) = and_then parts (two_probes at probe.Eq)
-probe_form at args parts (Some operator.And) = and_then parts (some_probes at probe.And)
-probe_form at args parts (Some operator.Or) = and_then parts (some_probes at probe.Or)
-probe_form at args parts (Some operator.Not) = and_then parts (one_probe at probe.Not)
+probe_form at args parts (Some operator.Lt) = and_then parts (probe_combined at operator.Lt)
+probe_form at args parts (Some operator.Le) = and_then parts (probe_combined at operator.Le)
+probe_form at args parts (Some operator.Gt) = and_then parts (probe_combined at operator.Gt)
+probe_form at args parts (Some operator.Ge) = and_then parts (probe_combined at operator.Ge)
+probe_form at args parts (Some operator.Eq) = and_then parts (probe_combined at operator.Eq)
+probe_form at args parts (Some operator.And) = and_then parts (probe_combined at operator.And)
+probe_form at args parts (Some operator.Or) = and_then parts (probe_combined at operator.Or)
+probe_form at args parts (Some operator.Not) = and_then parts (probe_combined at operator.Not)
 
 unfoldable mutual
   -- a form as a probe
@@ -132,12 +146,27 @@ abbrev pub read_value : Form → Option ParamKey → Result (Option (ParamKey ×
 read_value form None = Ok None
 read_value form (Some key) = value_read (place_of form) key (number_of form)
 
+-- a parameter and its value
+abbrev pub read_setting : Form → Form → Result (Option (ParamKey × ℤ)) StratError
+read_setting key value = and_then (read_key key) (read_value value)
+
 -- the forms as settings; none where one has another shape, which is told last
 unfoldable pub read_settings : Forms → Result (Option (List (ParamKey × ℤ))) StratError
 read_settings none = Ok (Some [])
 read_settings (more key none) = and_then (read_key key) (λ _. Ok None)
 read_settings (more key (more value rest)) =
-    and_then (and_then (read_key key) (read_value value)) (λ setting. and_then (read_settings rest) (λ settings. Ok (with_setting setting settings)))
+    and_then (read_setting key value) (λ setting. and_then (read_settings rest) (λ settings. Ok (with_setting setting settings)))
+
+-- a setting as the only one
+abbrev pub alone : Option (ParamKey × ℤ) → Option (List (ParamKey × ℤ))
+alone None = None
+alone (Some setting) = Some (setting ∷ [])
+
+-- settings behind those so far
+abbrev pub appended : Option (List (ParamKey × ℤ)) → Option (List (ParamKey × ℤ)) → Option (List (ParamKey × ℤ))
+appended None rest = None
+appended (Some front) None = None
+appended (Some front) (Some rest) = Some (front ++ rest)
 
 -- a strategy with settings, if there is one
 abbrev pub with_settings : ℕ → Strategy → Option (List (ParamKey × ℤ)) → Result Strategy StratError
@@ -161,53 +190,68 @@ strategy_atom names kind.Bits text at = Err (BadStrategy at)
 strategy_atom names kind.Text text at = Err (BadStrategy at)
 strategy_atom names kind.Keyword text at = Err (BadStrategy at)
 
--- a form of two strategies, of two or more, of two to so many
-abbrev pub two_parts : ℕ → (Strategy → Strategy → Strategy) → List Strategy → Result Strategy StratError
-two_parts at make [] = Err (BadStrategy at)
-two_parts at make (a ∷ []) = Err (BadStrategy at)
-two_parts at make (a ∷ b ∷ []) = Ok (make a b)
-two_parts at make (a ∷ b ∷ c ∷ rest) = Err (BadStrategy at)
+-- the forms over strategies, where they have as many as they may
+abbrev pub then_of : ℕ → List Strategy → Result Strategy StratError
+then_of at parts = and_then (least_of 2 at parts) (λ all. Ok (strategy.Then all))
 
-abbrev pub one_part : ℕ → (Strategy → Strategy) → List Strategy → Result Strategy StratError
-one_part at make [] = Err (BadStrategy at)
-one_part at make (a ∷ []) = Ok (make a)
-one_part at make (a ∷ b ∷ rest) = Err (BadStrategy at)
-
-abbrev pub some_parts : ℕ → (List Strategy → Strategy) → List Strategy → Result Strategy StratError
-some_parts at make parts = if nat_le 2 (length parts) then Ok (make parts) else Err (BadStrategy at)
+abbrev pub or_else_of : ℕ → List Strategy → Result Strategy StratError
+or_else_of at parts = and_then (least_of 2 at parts) (λ all. Ok (strategy.OrElse all))
 
 abbrev pub branches : ℕ → List Strategy → Result Strategy StratError
-branches at parts = if nat_le 2 (length parts) && nat_le (length parts) BRANCHES then Ok (strategy.ParOr parts) else Err (BadStrategy at)
+branches at parts = if nat_le (length parts) BRANCHES then Ok (strategy.ParOr parts) else Err (BadStrategy at)
+
+abbrev pub par_or_of : ℕ → List Strategy → Result Strategy StratError
+par_or_of at parts = and_then (least_of 2 at parts) (branches at)
+
+abbrev pub par_then_of : ℕ → List Strategy → Result Strategy StratError
+par_then_of at parts = and_then (two_of at parts) (λ both. Ok (strategy.ParThen both.0 both.1))
+
+abbrev pub if_of : ℕ → ProbeExpr → List Strategy → Result Strategy StratError
+if_of at p parts = and_then (two_of at parts) (λ both. Ok (strategy.If p both.0 both.1))
+
+abbrev pub when_of : ℕ → ProbeExpr → List Strategy → Result Strategy StratError
+when_of at p parts = and_then (one_of at parts) (λ part. Ok (strategy.When p part))
+
+abbrev pub fail_if_of : ℕ → Forms → ProbeExpr → Result Strategy StratError
+fail_if_of at args p = only at args (strategy.FailIf p)
+
+-- a number up to another one
+abbrev pub within : ℕ → ℕ → ℕ → Result ℕ StratError
+within most place n = if nat_le n most then Ok n else Err (BadStrategy place)
 
 -- a numeral up to a number
 abbrev pub limited : ℕ → ℕ → Form → Option ℕ → Result ℕ StratError
 limited at most form None = Err (BadStrategy at)
-limited at most form (Some n) = if nat_le n most then Ok n else Err (BadStrategy (place_of form))
+limited at most form (Some n) = within most (place_of form) n
 
 -- what stands behind the strategy of a `repeat`
-abbrev pub repeated : ℕ → Strategy → Forms → Result Strategy StratError
-repeated at s none = Ok (strategy.Repeat s TURNS)
-repeated at s (more form forms) = and_then (limited at (2 ^ 32 - 1) form (numeral_of form)) (λ turns. only at forms (strategy.Repeat s turns))
+abbrev pub repeat_of : ℕ → Forms → Strategy → Result Strategy StratError
+repeat_of at none s = Ok (strategy.Repeat s TURNS)
+repeat_of at (more form forms) s = and_then (limited at 4294967295 form (numeral_of form)) (λ turns. only at forms (strategy.Repeat s turns))
 
 -- what stands behind the strategy of a `try-for`
-abbrev pub tried : ℕ → Strategy → Forms → Result Strategy StratError
-tried at s none = Err (BadStrategy at)
-tried at s (more form forms) = and_then (limited at (2 ^ 62) form (numeral_of form)) (λ limit. only at forms (strategy.TryFor s limit))
+abbrev pub try_for_of : ℕ → Forms → Strategy → Result Strategy StratError
+try_for_of at none s = Err (BadStrategy at)
+try_for_of at (more form forms) s = and_then (limited at 4611686018427387904 form (numeral_of form)) (λ limit. only at forms (strategy.TryFor s limit))
+
+-- what stands behind the strategy of a `using-params`
+abbrev pub params_of : ℕ → Forms → Strategy → Result Strategy StratError
+params_of at args s = and_then (read_settings args) (with_settings at s)
 
 -- A form of a strategy by its word, from its arguments: the first one as a probe and as a strategy, the others as they stand
 -- and as strategies.
 abbrev pub strategy_form : ℕ → Form → Forms → Result Strategy StratError → Result (List Strategy) StratError → Option Head → Result Strategy StratError
 strategy_form at arg args part parts None = Err (BadStrategy at)
-strategy_form at arg args part parts (Some head.Then) = and_then (in_front part parts) (some_parts at strategy.Then)
-strategy_form at arg args part parts (Some head.OrElse) = and_then (in_front part parts) (some_parts at strategy.OrElse)
-strategy_form at arg args part parts (Some head.ParOr) = and_then (in_front part parts) (branches at)
-strategy_form at arg args part parts (Some head.ParThen) = and_then (in_front part parts) (two_parts at strategy.ParThen)
-strategy_form at arg args part parts (Some head.If) = and_then (read_probe arg) (λ p. and_then parts (two_parts at (strategy.If p)))
-strategy_form at arg args part parts (Some head.When) = and_then (read_probe arg) (λ p. and_then parts (one_part at (strategy.When p)))
-strategy_form at arg args part parts (Some head.FailIf) = and_then (read_probe arg) (λ p. only at args (strategy.FailIf p))
-strategy_form at arg args part parts (Some head.Repeat) = and_then part (λ s. repeated at s args)
-strategy_form at arg args part parts (Some head.UsingParams) = and_then part (λ s. and_then (read_settings args) (with_settings at s))
-strategy_form at arg args part parts (Some head.TryFor) = and_then part (λ s. tried at s args)
+strategy_form at arg args part parts (Some head.Then) = and_then (in_front part parts) (then_of at)
+strategy_form at arg args part parts (Some head.OrElse) = and_then (in_front part parts) (or_else_of at)
+strategy_form at arg args part parts (Some head.ParOr) = and_then (in_front part parts) (par_or_of at)
+strategy_form at arg args part parts (Some head.ParThen) = and_then (in_front part parts) (par_then_of at)
+strategy_form at arg args part parts (Some head.If) = and_then (read_probe arg) (λ p. and_then parts (if_of at p))
+strategy_form at arg args part parts (Some head.When) = and_then (read_probe arg) (λ p. and_then parts (when_of at p))
+strategy_form at arg args part parts (Some head.FailIf) = and_then (read_probe arg) (fail_if_of at args)
+strategy_form at arg args part parts (Some head.Repeat) = and_then part (repeat_of at args)
+strategy_form at arg args part parts (Some head.UsingParams) = and_then part (params_of at args)
+strategy_form at arg args part parts (Some head.TryFor) = and_then part (try_for_of at args)
 
 unfoldable mutual
   -- a form as a strategy, where so many forms may stand in one another
@@ -224,3 +268,13 @@ unfoldable mutual
   pub read_each : Names → Forms → ℕ → Result (List Strategy) StratError
   read_each names none left = Ok []
   read_each names (more form forms) left = in_front (read_strategy names form left) (read_each names forms left)
+
+-- a form of a strategy by its word, with its arguments
+abbrev pub strategy_by : Names → ℕ → Form → Forms → ℕ → Head → Result Strategy StratError
+strategy_by names at arg args left word = strategy_form at arg args (read_strategy names arg left) (read_each names args left) (Some word)
+
+-- the items of a list as a strategy, whose parts have so many levels
+abbrev pub list_read : Names → ℕ → ℕ → Forms → Result Strategy StratError
+list_read names at left none = Err (BadStrategy at)
+list_read names at left (more first none) = Err (BadStrategy at)
+list_read names at left (more first (more arg args)) = strategy_form at arg args (read_strategy names arg left) (read_each names args left) (head_in first)

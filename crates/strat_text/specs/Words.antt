@@ -9,7 +9,7 @@ use Rattle.strat_text.specs.declared.probe.ProbeExpr.{ProbeExpr}
 use Rattle.strat_text.specs.declared.probe.ProbeExpr.TheVariants as probe
 use Rattle.strat_text.specs.declared.strategy.ParamKey.{ParamKey}
 use Rattle.strat_text.specs.declared.strategy.ParamKey.TheVariants as key
-use Rattle.strat_text.specs.Form.{Form, symbol_of}
+use Rattle.strat_text.specs.Form.{Form, Forms, none, more, symbol_of}
 
 -- the words that begin the forms of strategies
 unfoldable pub head_of : List ℕ → Option Head
@@ -70,3 +70,8 @@ head_in form = looked_up head_of (symbol_of form)
 
 abbrev pub operator_in : Form → Option Operator
 operator_in form = looked_up operator_of (symbol_of form)
+
+-- the word that forms begin with
+abbrev pub operator_before : Forms → Option Operator
+operator_before none = None
+operator_before (more first rest) = operator_in first

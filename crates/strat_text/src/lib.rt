@@ -6,8 +6,15 @@
 
 mod allowed;
 mod error;
+mod form;
+mod forms;
 mod name;
+mod number;
+mod parts;
 mod probe;
+mod read;
+mod read_probe;
+mod settings;
 mod strategy;
 mod words;
 mod write;
@@ -16,5 +23,9 @@ pub use allowed::is_allowed;
 pub use error::StratError;
 pub use name::ReducerName;
 pub use probe::ProbeExpr;
+pub use read::read_strategy;
 pub use strategy::{ParamKey, Strategy};
 pub use write::write_strategy;
+
+#[cfg(test)]
+mod tests;
