@@ -1,0 +1,13 @@
+pub mod Form
+pub mod Words
+pub mod Number
+pub mod Grammar
+pub mod Reading
+pub mod Faults
+pub mod Spelled
+pub mod Allowed
+pub mod Nesting
+pub mod Known
+pub mod Back
+pub mod Within
+pub mod Given
