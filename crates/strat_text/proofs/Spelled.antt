@@ -25,19 +25,19 @@ use Rattle.strat_text.proofs.Readings.{read_strategy_deep}
 use Rattle.strat_text.specs.Reading.{and_then, in_front, one_of, two_of, least_of, probe_number, probe_word, probe_form, probe_combined, read_probe, read_probes, read_key, key_read, read_value, value_read, read_setting, read_settings, with_setting, with_settings, name_read, strategy_form, read_strategy, read_each, then_of, or_else_of, par_or_of, par_then_of, if_of, when_of, fail_if_of, branches, nothing, only, limited, within, repeat_of, try_for_of, params_of}
 
 -- a fault is no answer, and two answers are the same
-no_answer : {A B : Type 0} (e : StratError) (a : A) → ◌≡◌ {A = Result A StratError} (Err e) (Ok a) → B
+pub no_answer : {A B : Type 0} (e : StratError) (a : A) → ◌≡◌ {A = Result A StratError} (Err e) (Ok a) → B
 no_answer e a h = absurd cc
 
-same_answer : {A : Type 0} (a b : A) → ◌≡◌ {A = Result A StratError} (Ok a) (Ok b) → a ≡ b
+pub same_answer : {A : Type 0} (a b : A) → ◌≡◌ {A = Result A StratError} (Ok a) (Ok b) → a ≡ b
 same_answer a b h = cc
 
 -- two readings both answer
-record Both {A B : Type 0} (r : Result A StratError) (next : A → Result B StratError) (b : B) : Type 0 where
-  first : A
-  reads : r ≡ Ok first
-  goes : next first ≡ Ok b
+pub record Both {A B : Type 0} (r : Result A StratError) (next : A → Result B StratError) (b : B) : Type 0 where
+  pub first : A
+  pub reads : r ≡ Ok first
+  pub goes : next first ≡ Ok b
 
-both : {A B : Type 0} (r : Result A StratError) (next : A → Result B StratError) (b : B) → and_then r next ≡ Ok b → Both r next b
+pub both : {A B : Type 0} (r : Result A StratError) (next : A → Result B StratError) (b : B) → and_then r next ≡ Ok b → Both r next b
 both (Ok a) next b h = record { first = a; reads = refl; goes = h }
 both (Err e) next b h = no_answer e b h
 

@@ -113,7 +113,7 @@ range_faults at (Some key) (Some z) = bad_unless (is_within key z) at
 unfoldable pub settings_faults : Forms → List StratError
 settings_faults none = []
 settings_faults (more key none) = key_faults key
-settings_faults (more key (more value rest)) = key_faults key ++ range_faults (place_of value) (key_in key) (number_of value) ++ settings_faults rest
+settings_faults (more key (more value rest)) = key_faults key ++ (range_faults (place_of value) (key_in key) (number_of value) ++ settings_faults rest)
 
 -- a form that is a keyword
 abbrev pub is_keyword_form : Form → Bool
@@ -161,9 +161,9 @@ is_numeral_form None = false
 is_numeral_form (Some n) = true
 
 -- the number behind a strategy, where one stands
-abbrev pub turns_faults : ℕ → ℕ → Forms → List StratError
-turns_faults at most none = []
-turns_faults at most (more form forms) = limit_faults (place_of form) most (numeral_of form)
+abbrev pub turns_faults : ℕ → Forms → List StratError
+turns_faults most none = []
+turns_faults most (more form forms) = limit_faults (place_of form) most (numeral_of form)
 
 -- nothing, or one numeral
 abbrev pub is_turns : Forms → Bool
@@ -185,12 +185,12 @@ strategy_form_faults at arg args part parts (Some head.Then) = (part ++ parts) +
 strategy_form_faults at arg args part parts (Some head.OrElse) = (part ++ parts) ++ bad_unless (nat_le 1 (count args)) at
 strategy_form_faults at arg args part parts (Some head.ParOr) = (part ++ parts) ++ bad_unless (nat_le 1 (count args) && nat_lt (count args) BRANCHES) at
 strategy_form_faults at arg args part parts (Some head.ParThen) = (part ++ parts) ++ bad_unless (nat_le 1 (count args) && nat_le (count args) 1) at
-strategy_form_faults at arg args part parts (Some head.If) = probe_faults arg ++ parts ++ bad_unless (nat_le 2 (count args) && nat_le (count args) 2) at
-strategy_form_faults at arg args part parts (Some head.When) = probe_faults arg ++ parts ++ bad_unless (nat_le 1 (count args) && nat_le (count args) 1) at
+strategy_form_faults at arg args part parts (Some head.If) = probe_faults arg ++ (parts ++ bad_unless (nat_le 2 (count args) && nat_le (count args) 2) at)
+strategy_form_faults at arg args part parts (Some head.When) = probe_faults arg ++ (parts ++ bad_unless (nat_le 1 (count args) && nat_le (count args) 1) at)
 strategy_form_faults at arg args part parts (Some head.FailIf) = probe_faults arg ++ bad_unless (nat_le (count args) 0) at
-strategy_form_faults at arg args part parts (Some head.Repeat) = part ++ turns_faults at (2 ^ 32 - 1) args ++ bad_unless (is_turns args) at
-strategy_form_faults at arg args part parts (Some head.UsingParams) = part ++ settings_faults args ++ bad_unless (are_pairs args && nat_le 1 (count args)) at
-strategy_form_faults at arg args part parts (Some head.TryFor) = part ++ turns_faults at (2 ^ 62) args ++ bad_unless (is_limit args) at
+strategy_form_faults at arg args part parts (Some head.Repeat) = part ++ (turns_faults (2 ^ 32 - 1) args ++ bad_unless (is_turns args) at)
+strategy_form_faults at arg args part parts (Some head.UsingParams) = part ++ (settings_faults args ++ bad_unless (are_pairs args && nat_le 1 (count args)) at)
+strategy_form_faults at arg args part parts (Some head.TryFor) = part ++ (turns_faults (2 ^ 62) args ++ bad_unless (is_limit args) at)
 
 unfoldable mutual
   -- The faults of a form that stands as a strategy, where so many forms may stand in one another. A form that stands too deep isn't looked into.

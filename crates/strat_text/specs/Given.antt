@@ -1,5 +1,5 @@
 -- What calls answer for readings, where want of memory is free.
-use Rattle.std.specs.Prelude.{◌≡◌, ⊤, ℕ, ◌^◌, nat_lt, if◌then◌else◌, ℤ, List, ◌++◌, Option, None, Some, Result, Ok, Err}
+use Rattle.std.specs.Prelude.{◌≡◌, ⊤, ℕ, ◌^◌, nat_lt, if◌then◌else◌, ℤ, List, [], ◌∷◌, ◌++◌, Option, None, Some, Result, Ok, Err}
 use Rattle.strat_text.specs.declared.error.StratError.{StratError}
 use Rattle.strat_text.specs.declared.error.StratError.TheVariants.{UnknownReducer, UnknownProbe, UnknownParam, BadStrategy, Memory}
 use Rattle.strat_text.specs.declared.number.Number.{Number}
@@ -33,3 +33,12 @@ narrow n = if nat_lt n (2 ^ 128) then Some n else None
 abbrev pub seen : Option ℤ → Number
 seen None = Absent
 seen (Some z) = if is_wide z then Wide else Fits z
+
+-- The fault that is told is the first of these; there is none where something is read.
+abbrev pub Tells : {A : Type 0} → Result A StratError → List StratError → Type 0
+Tells (Ok a) faults = faults ≡ []
+Tells (Err (UnknownReducer at)) faults = (rest : List StratError) × (faults ≡ UnknownReducer at ∷ rest)
+Tells (Err (UnknownProbe at)) faults = (rest : List StratError) × (faults ≡ UnknownProbe at ∷ rest)
+Tells (Err (UnknownParam at)) faults = (rest : List StratError) × (faults ≡ UnknownParam at ∷ rest)
+Tells (Err (BadStrategy at)) faults = (rest : List StratError) × (faults ≡ BadStrategy at ∷ rest)
+Tells (Err (Memory cause)) faults = ⊤

@@ -6,7 +6,8 @@ ghost use Rattle.std.specs.Str.{bytes_eq};
 ghost use Rattle.strat_text.specs.Form as form;
 ghost use Rattle.strat_text.specs.Grammar as grammar;
 ghost use Rattle.strat_text.specs.Reading as spec;
-ghost use Rattle.strat_text.specs.Given.{Gives, after};
+ghost use Rattle.strat_text.specs.Faults as told;
+ghost use Rattle.strat_text.specs.Given.{Gives, Tells, after};
 
 use crate::error::StratError;
 use crate::form::{head_in, place, text_at};
@@ -35,6 +36,7 @@ pub fn read_strategy(
     ensures read { Gives result (spec.read_strategy (option_copied reducers.entry) (form.form_of bytes.now sexp.now) DEPTH) }
     ensures spelled { IfOk result (grammar.Spells (option_copied reducers.entry) DEPTH (form.form_of bytes.now sexp.now)) }
     ensures complete { (s : Strategy) → grammar.Spells (option_copied reducers.entry) DEPTH (form.form_of bytes.now sexp.now) s → Gives result (Ok s) }
+    ensures told { Tells result (told.faults (option_copied reducers.entry) (form.form_of bytes.now sexp.now) DEPTH) }
 {
     read_at(alloc, bytes, sexp, reducers, DEPTH)
 }
@@ -163,8 +165,8 @@ fn read_by(
             par_or_of(parts, at)
         }
         Head::ParThen => {
-            let parts = read_all(alloc, bytes, first, rest, names, left)?;
-            par_then_of(alloc, parts, at)
+            let both = read_all(alloc, bytes, first, rest, names, left)?;
+            par_then_of(alloc, both, at)
         }
         Head::If => {
             let probe = read_probe(alloc, bytes, first)?;
