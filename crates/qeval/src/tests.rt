@@ -120,11 +120,19 @@ fn is(alloc: Global, store: &mut Store, model: &Model, term: Term, want: Value) 
     }
 }
 
+/// Whether an error names this subterm.
+fn names(error: &EvalError, want: TermId) -> bool {
+    match error {
+        EvalError::Wide { term } => *term == want,
+        EvalError::Memory(_) => false,
+    }
+}
+
 /// Whether this is the first subterm of a term that passes 128 bits.
 fn is_wide(alloc: Global, store: &mut Store, model: &Model, term: Term, want: TermId) -> bool {
     match value(alloc, store, model, term) {
-        Err(EvalError::Wide { term }) => term.index() == want.index(),
-        Ok(_) | Err(EvalError::Memory(_)) => false,
+        Ok(_) => false,
+        Err(error) => names(&error, want),
     }
 }
 
