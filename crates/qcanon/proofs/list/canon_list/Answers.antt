@@ -1,27 +1,52 @@
-use Rattle.std.proofs.Common.{◌≡◌, ◌∙◌, None, map, All, ap, subst, sym}
-use Rattle.qterm.specs.Store.{Has, trees_of}
+use Rattle.std.proofs.Common.{◌≡◌, ◌∙◌, ℕ, None, map, All, ap, subst, sym}
+use Rattle.std.specs.List.{AllZip}
+use Rattle.qterm.specs.Store.{Has, tree_at, trees_of}
 use Rattle.qcanon.specs.Walk.{first_fault, id_of}
+use Rattle.qcanon.specs.declared.chain.Answer.{Answer}
+use Rattle.qcanon.specs.Chain.{IsAnswer, Links}
 use Rattle.qcanon.proofs.Listing.{list_fault, list_found, have_each}
+use Rattle.qcanon.proofs.Nesting.{sound_found, all_sound, all_linked}
 use Rattle.qcanon.proofs.list.canon_list.Goals as goal
 
 pub fold_all-requires-clause-ready : goal.fold_all-requires-clause-ready
 fold_all-requires-clause-ready c = c.new-forms.ensures c.args.store.now
 
+pub settle_all-requires-clause-sound : goal.settle_all-requires-clause-sound
+settle_all-requires-clause-sound c =
+    let ts = c.args.store.now in
+    let us = c.fold_all.new.store in
+    let R : ℕ → Answer → Type 0 = λ i a. IsAnswer us (tree_at ts i) a in
+    all_sound us R c.args.list.now c.as_slice.result.now (λ i a h. sound_found us (tree_at ts i) a h) (subst (AllZip R c.args.list.now) (sym c.as_slice.ensures.value) c.in_ok-answers.ensures.right)
+
 pub returns-in-Some-clause-too_wide : goal.returns-in-Some-clause-too_wide
 returns-in-Some-clause-too_wide c =
-    list_fault c.args.store.now c.fold_all.new.store c.args.list.now c.in_ok-outs.outs.items c.in-Some.term c.in_ok-outs.ensures.right (ap first_fault (sym c.as_slice.ensures.value) ∙ sym c.in-Some.ensures)
+    let ts = c.args.store.now in
+    let us = c.fold_all.new.store in
+    let vs = c.settle_all.new.store in
+    let bs = c.in_ok-answers.answers.items in
+    let os = c.in_ok-outs.outs.items in
+    let z = all_linked us vs None (tree_at ts) c.args.list.now bs os c.in_ok-answers.ensures.right (subst (λ xs. AllZip (Links us vs None) xs os) c.as_slice.ensures.value c.in_ok-outs.ensures.links) in
+    list_fault ts vs c.args.list.now os c.in-Some.term z (ap first_fault (sym c.as_slice-2.ensures.value) ∙ sym c.in-Some.ensures)
 
 pub tidied-requires : goal.tidied-requires
 tidied-requires c =
+    let ts = c.args.store.now in
     let us = c.fold_all.new.store in
+    let vs = c.settle_all.new.store in
+    let bs = c.in_ok-answers.answers.items in
     let os = c.in_ok-outs.outs.items in
-    let k : c.as_slice-3.result.now ≡ map id_of os = c.as_slice-3.ensures.value ∙ c.in_ok-ids.ensures ∙ ap (map id_of) c.as_slice-2.ensures.value in
-    record { has = subst (All (Has us)) (sym k) (have_each c.args.store.now us c.args.list.now os c.in_ok-outs.ensures.right) }
+    let z = all_linked us vs None (tree_at ts) c.args.list.now bs os c.in_ok-answers.ensures.right (subst (λ xs. AllZip (Links us vs None) xs os) c.as_slice.ensures.value c.in_ok-outs.ensures.links) in
+    let k : c.as_slice-4.result.now ≡ map id_of os = c.as_slice-4.ensures.value ∙ c.in_ok-ids.ensures ∙ ap (map id_of) c.as_slice-3.ensures.value in
+    record { has = subst (All (Has vs)) (sym k) (have_each ts vs c.args.list.now os z) }
 
 pub returns-clause-listed : goal.returns-clause-listed
 returns-clause-listed c =
+    let ts = c.args.store.now in
     let us = c.fold_all.new.store in
+    let vs = c.settle_all.new.store in
+    let bs = c.in_ok-answers.answers.items in
     let os = c.in_ok-outs.outs.items in
-    let k : c.as_slice-3.result.now ≡ map id_of os = c.as_slice-3.ensures.value ∙ c.in_ok-ids.ensures ∙ ap (map id_of) c.as_slice-2.ensures.value in
-    let f : first_fault os ≡ None = ap first_fault (sym c.as_slice.ensures.value) ∙ sym c.in_default.ensures in
-    list_found c.args.store.now us c.args.list.now os c.as_slice-3.result.now c.from_vec.result c.in_ok-outs.ensures.right f k (ap (trees_of us) c.from_vec.ensures ∙ c.in_ok-parts.ensures.same)
+    let z = all_linked us vs None (tree_at ts) c.args.list.now bs os c.in_ok-answers.ensures.right (subst (λ xs. AllZip (Links us vs None) xs os) c.as_slice.ensures.value c.in_ok-outs.ensures.links) in
+    let k : c.as_slice-4.result.now ≡ map id_of os = c.as_slice-4.ensures.value ∙ c.in_ok-ids.ensures ∙ ap (map id_of) c.as_slice-3.ensures.value in
+    let f : first_fault os ≡ None = ap first_fault (sym c.as_slice-2.ensures.value) ∙ sym c.in_default.ensures in
+    list_found ts vs c.args.list.now os c.as_slice-4.result.now c.from_vec.result z f k (ap (trees_of vs) c.from_vec.ensures ∙ c.in_ok-parts.ensures.same)
