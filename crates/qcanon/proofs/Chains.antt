@@ -1,13 +1,12 @@
 -- Nested And and Or: the canonical form is the junction of the formulas under them.
-use Rattle.std.proofs.Common.{◌≡◌, refl, sym, ap, subst, ◌∙◌, Bool as Truth, true, false, not, ◌||◌, true≢false, inl, inr, ◌⊎◌, Result, Ok, Err, if◌then◌else◌, None}
+use Rattle.std.proofs.Common.{◌≡◌, refl, sym, ap, subst, ◌∙◌, Bool as Truth, true, false, not, ◌||◌, true≢false, inl, inr, ◌⊎◌, Ok, if◌then◌else◌}
 use Rattle.std.specs.declared.cmp.Ordering.{Ordering}
 use Rattle.std.specs.declared.cmp.Ordering.TheVariants.{Less, Equal, Greater}
-use Rattle.qterm.specs.Tree.{Tree, Trees, True, False, Var, Num, Sum, Scale, Le, Eq, Iff, Not, And, Or, Ite, none, more}
+use Rattle.qterm.specs.Tree.{Tree, Trees, True, False, And, Or, none, more}
 use Rattle.qlin.specs.Order.{tree_cmp, by_order, same}
 use Rattle.qlin.specs.Atom.{truth_tree}
 use Rattle.qlin.specs.Junction.{has_constant, members, joined, packed, junction, gathered, insert, inserts, sorted}
 use Rattle.qlin.specs.Canon.{canon, canons, after}
-use Rattle.qlin.specs.Iff.{constant_of}
 use Rattle.qlin.proofs.Sorting.{In, unique, inserts_up, in_sorted, sorted_in}
 use Rattle.qcanon_laws.proofs.Canonical.{IsCanonical, AreCanonical, IsPlain, ArePlain, is_kind, some≢none, not_constant, same_itself, fixed}
 use Rattle.qcanon.specs.Junction.{joined_lists, flat}

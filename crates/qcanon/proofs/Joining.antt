@@ -1,9 +1,9 @@
 -- What And and Or answer on the walk.
-use Rattle.std.proofs.Common.{◌≡◌, ℕ, List, [], ◌∷◌, map, refl, sym, ap, subst, ◌∙◌, Bool as Truth, true, false, Option, Some, None, Result, Ok, Err, IfOk, IfErr, All}
+use Rattle.std.proofs.Common.{◌≡◌, ℕ, List, [], ◌∷◌, map, refl, sym, ap, subst, ◌∙◌, Bool as Truth, true, false, Some, None, Result, Ok, Err, IfOk, IfErr, All}
 use Rattle.std.specs.List.{AllZip}
 use Rattle.qterm.specs.declared.name.Sort.TheVariants.{Bool}
-use Rattle.qterm.specs.Tree.{Tree, Trees, And, Or, none, more, sort_of, IsLawful, AreLawful}
-use Rattle.qterm.specs.Store.{Has, HasSort, Shows, Extends, tree_at, trees_at}
+use Rattle.qterm.specs.Tree.{Tree, Trees, none, more, sort_of, IsLawful, AreLawful}
+use Rattle.qterm.specs.Store.{Has, HasSort, Shows, tree_at, trees_at}
 use Rattle.qterm.specs.Kids.{kids, listed}
 use Rattle.qterm.proofs.Alls.{All-nil, All-cons}
 use Rattle.qlin.specs.Junction.{joined, junction}

@@ -4,10 +4,10 @@ use Rattle.std.proofs.lemmas.List.{take_more}
 use Rattle.qterm.specs.declared.term.Term.{Term}
 use Rattle.qterm.specs.declared.term.Term.TheVariants as term
 use Rattle.qterm.specs.declared.name.Sort.TheVariants.{Bool}
-use Rattle.qterm.specs.Tree.{Tree, Trees, True, False, Var, Num, Sum, Scale, Le, Eq, Iff, Not, And, Or, Ite, none, more}
-use Rattle.qterm.specs.Store.{HasSort, tree_at, trees_at, grow, Fits}
+use Rattle.qterm.specs.Tree.{Tree, Trees, True, False, none, more}
+use Rattle.qterm.specs.Store.{HasSort, tree_at, trees_at, grow}
 use Rattle.qterm.proofs.Alls.{All-head, All-tail, All-cons, All-nil}
-use Rattle.qlin.specs.Order.{same, tree_cmp}
+use Rattle.qlin.specs.Order.{same}
 use Rattle.qlin.specs.Atom.{truth_tree}
 use Rattle.qlin.specs.Junction.{has_constant, members, joined, packed, junction, gathered, inserts, sorted}
 use Rattle.qcanon.specs.Junction.{joined_lists, flat, AreMembers, IsGathered}

@@ -1,23 +1,20 @@
 -- Forms whose numbers are in range.
-use Rattle.std.proofs.Common.{◌≡◌, ℕ, ℤ, pos, negsuc, List, [], ◌∷◌, refl, sym, ap, ◌∙◌, arith, Bool, true, false, ◌&&◌, true≢false, Option, Some, None, Result, Ok, Err, All, IfOk, if◌then◌else◌}
+use Rattle.std.proofs.Common.{◌≡◌, ℕ, ℤ, pos, negsuc, List, [], ◌∷◌, refl, sym, ap, ◌∙◌, arith, Bool, true, false, ◌&&◌, true≢false, Some, None, Result, Ok, Err, All, IfOk, if◌then◌else◌}
 use Rattle.std.specs.Prelude.{◌+ℤ◌}
-use Rattle.std.specs.Option.{option_map}
 use Rattle.std.proofs.lemmas.Int.{ints}
 use Rattle.qterm.specs.Tree.{Tree, True, IsLawful}
 use Rattle.qterm.specs.Store.{tree_at, HasSort}
 use Rattle.qterm.specs.declared.name.Sort.TheVariants.{Int}
-use Rattle.qlin.specs.Number.{in_range, fits}
-use Rattle.qlin.specs.Form.{Form, form, zero_form, plus, times, if_in_range, parts_in_range, term}
-use Rattle.qlin.specs.Lin.{parts_at, form_at, IsRising, IsForm, IsFormIfFits, parts_fit, form_fits}
+use Rattle.qlin.specs.Number.{in_range}
+use Rattle.qlin.specs.Form.{Form, form, zero_form, plus, times, if_in_range, parts_in_range}
+use Rattle.qlin.specs.Lin.{form_at, IsRising, IsForm, parts_fit, form_fits}
 use Rattle.qlin.specs.Atom.{difference}
 use Rattle.qlin.specs.declared.lin.Lin.{Lin}
-use Rattle.qlin.specs.declared.lin.LinError.{LinError}
-use Rattle.qlin.specs.declared.lin.LinError.TheVariants.{Wide}
 use Rattle.qlin.proofs.Merges.{both, puts_empty}
 use Rattle.qlin.proofs.Ranges.{range_at, range_fits}
 use Rattle.qcanon_laws.specs.Law.{AreReadable}
 use Rattle.qcanon.specs.Answer.{IsOwn}
-use Rattle.qcanon.specs.Sums.{GivesForm, IsNarrow}
+use Rattle.qcanon.specs.Sums.{IsNarrow}
 
 -- ---- the test of the range
 pub narrow_gives : (ts : List Tree) (l : Lin) → (parts_in_range l.parts && in_range l.constant) ≡ true → if_in_range (form_at ts l) ≡ Some (form_at ts l)

@@ -1,20 +1,18 @@
 -- And and Or that stay nested on the walk.
-use Rattle.std.proofs.Common.{◌≡◌, ℕ, ◌+◌, ◌<◌, suc, zero, List, [], ◌∷◌, ◌++◌, map, reverse, take, length, get_or, refl, sym, ap, subst, ◌∙◌, arith, Bool as Truth, true, false, Option, Some, None, Result, Ok, Err, All, cond, nat_eq, eqb-true}
+use Rattle.std.proofs.Common.{◌≡◌, ℕ, ◌+◌, ◌<◌, suc, List, [], ◌∷◌, ◌++◌, reverse, take, length, get_or, refl, sym, ap, subst, ◌∙◌, arith, Bool as Truth, true, false, Option, Some, None, Ok, All, cond, nat_eq, eqb-true}
 use Rattle.std.proofs.lemmas.List.{reverse-append, take_more}
 use Rattle.std.proofs.lemmas.Slice.Zip.{all_zipped_more}
 use Rattle.std.specs.List.{AllZip}
 use Rattle.std.specs.HashMap.{get}
 use Rattle.qterm.specs.declared.name.Sort.TheVariants.{Bool}
-use Rattle.qterm.specs.Tree.{Tree, Trees, And, Or, none, more, sort_of, IsLawful, AreLawful}
+use Rattle.qterm.specs.Tree.{Tree, Trees, And, Or, none, more, sort_of, IsLawful}
 use Rattle.qterm.specs.Store.{Has, HasSort, Shows, Extends, tree_at, trees_at}
-use Rattle.qterm.specs.Kids.{kids, listed}
 use Rattle.qterm.proofs.Alls.{All-nil, All-cons, All-weaker}
 use Rattle.qterm.proofs.Fitting.{Has_extends, HasSort_extends}
-use Rattle.qterm.proofs.Extending.{Shows-HasSort}
 use Rattle.qwalk.specs.Walk.{same_id}
 use Rattle.qlin.specs.Junction.{joined, junction}
-use Rattle.qlin.specs.Canon.{canon, canons, after}
-use Rattle.qcanon_laws.proofs.Canonical.{IsCanonical, AreCanonical}
+use Rattle.qlin.specs.Canon.{canon}
+use Rattle.qcanon_laws.proofs.Canonical.{AreCanonical}
 use Rattle.qcanon_laws.proofs.Sorts.{Good, Finds, canon_good}
 use Rattle.qcanon_laws.proofs.Closed.{its_own}
 use Rattle.qcanon_laws.proofs.Readable.{own_canonical}
@@ -25,10 +23,9 @@ use Rattle.qcanon.specs.declared.chain.Answer.{Answer}
 use Rattle.qcanon.specs.declared.chain.Answer.TheVariants.{Found, Nested}
 use Rattle.qcanon.specs.declared.chain.Settled.{Settled}
 use Rattle.qcanon.specs.Junction.{joined_lists}
-use Rattle.qcanon.specs.Walk.{IsFound, id_of, first_fault}
-use Rattle.qcanon.specs.Chain.{leaves, all_leaves, weight, all_weight, AreParts, IsTaken, IsChain, IsFor, IsSound, IsRight, IsAnswer, IsLinked, Links, AreSettled}
+use Rattle.qcanon.specs.Chain.{leaves, all_leaves, weight, all_weight, AreParts, IsTaken, IsChain, IsFor, IsSound, IsAnswer, IsLinked, Links, AreSettled}
 use Rattle.qcanon.proofs.Junctions.{trees_append, joined_none, joined_assoc, all_append}
-use Rattle.qcanon.proofs.Chains.{canon_joined, canon_leaves, canonical_leaves}
+use Rattle.qcanon.proofs.Chains.{canon_leaves, canonical_leaves}
 use Rattle.qcanon.proofs.Finding.{IsFound_extends}
 
 -- ---- the formulas under nested ones, one after another

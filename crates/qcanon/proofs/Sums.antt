@@ -1,5 +1,5 @@
 -- Sums of forms: the numbers of monomials, and the parts in order that they stand for.
-use Rattle.std.proofs.Common.{◌≡◌, ℕ, ℤ, pos, negsuc, ◌+◌, ◌<◌, ◌≤◌, List, [], ◌∷◌, length, drop, get_or, map, refl, sym, ap, subst, ◌∙◌, arith, Bool, true, false, ◌&&◌, true≢false, eqb-true, Option, Some, None, cond, if◌then◌else◌}
+use Rattle.std.proofs.Common.{◌≡◌, ℕ, ℤ, pos, ◌+◌, ◌<◌, ◌≤◌, List, [], ◌∷◌, length, drop, get_or, map, refl, sym, ap, subst, ◌∙◌, arith, Bool, true, false, ◌&&◌, true≢false, eqb-true, Option, Some, None, cond, if◌then◌else◌}
 use Rattle.std.specs.Prelude.{◌+ℤ◌, nat_eq, unwrap_or}
 use Rattle.std.specs.Map.{lookup}
 use Rattle.std.specs.List.{AllByRecursion}
@@ -10,14 +10,14 @@ use Rattle.std.proofs.lemmas.Int.{ints}
 use Rattle.std.proofs.lemmas.Bool.{eq-eqb}
 use Rattle.std.proofs.lemmas.Map.Keys.{IsDistinct-head, IsDistinct-tail}
 use Rattle.indexmap.specs.IndexMap.{insert_entry}
-use Rattle.qterm.specs.Tree.{Tree, Trees, more}
+use Rattle.qterm.specs.Tree.{Tree}
 use Rattle.qterm.specs.Store.{tree_at, trees_at, Has, HasSort, IsDistinct}
 use Rattle.qterm.specs.declared.name.Sort.TheVariants.{Int}
 use Rattle.qlin.specs.Order.{tree_cmp, same}
 use Rattle.qlin.specs.Number.{in_range}
-use Rattle.qlin.specs.Form.{Form, Parts, put, puts, plus, form, zero_form, if_in_range, parts_in_range}
+use Rattle.qlin.specs.Form.{Form, Parts, put, puts, plus, form, if_in_range, parts_in_range}
 use Rattle.qlin.specs.Linear.{and_then, sum_onto}
-use Rattle.qlin.specs.Lin.{parts_at, form_at, AreInts, IsForm}
+use Rattle.qlin.specs.Lin.{parts_at, form_at, AreInts}
 use Rattle.qlin.specs.Merge.{AreParts}
 use Rattle.qlin.specs.Collect.{AreApart}
 use Rattle.qlin.specs.declared.lin.Lin.{Lin}

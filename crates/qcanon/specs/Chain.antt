@@ -11,7 +11,6 @@ use Rattle.qcanon_laws.proofs.Canonical.{AreCanonical}
 use Rattle.qcanon.specs.declared.walk.Outcome.{Outcome}
 use Rattle.qcanon.specs.declared.walk.Outcome.TheVariants.{Canonical, Faulty}
 use Rattle.qcanon.specs.declared.walk.Forms.{Forms}
-use Rattle.qcanon.specs.declared.chain.Chain.{Chain}
 use Rattle.qcanon.specs.declared.chain.Answer.{Answer}
 use Rattle.qcanon.specs.declared.chain.Answer.TheVariants.{Found, Nested}
 use Rattle.qcanon.specs.declared.chain.Settled.{Settled}

@@ -1,5 +1,5 @@
 -- The members of And and Or, gathered.
-use Rattle.std.specs.Prelude.{◌≡◌, ℕ, List, [], ◌∷◌, ◌++◌, All, Bool as Truth, true, false, not}
+use Rattle.std.specs.Prelude.{◌≡◌, ℕ, List, All, Bool as Truth, false, not}
 use Rattle.qterm.specs.Tree.{Tree, Trees, none, more}
 use Rattle.qterm.specs.Store.{HasSort, tree_at, trees_at}
 use Rattle.qterm.specs.declared.name.Sort.TheVariants.{Bool}

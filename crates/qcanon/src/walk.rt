@@ -24,7 +24,7 @@ use qterm::{Store, Term, TermId};
 use qwalk::{Fold, fold_terms};
 use std::alloc::{AllocError, Global};
 
-/// The canonical term, at a cost in proportion to the distinct subterms that are reached and their children.
+/// The canonical term. Each distinct subterm is asked once, and the levels of a chain of And or Or are joined together.
 ///
 /// All children are taken, also those of a branch that is folded away. Where a number leaves the range of the canonical form,
 /// `TooWide` has the first such subterm in postorder.

@@ -1,4 +1,4 @@
-use Rattle.std.proofs.Common.{◌∙◌, map, Some, ap, subst, sym, All}
+use Rattle.std.proofs.Common.{◌∙◌, map, Some, ap, sym}
 use Rattle.qterm.specs.Tree.{True}
 use Rattle.qterm.specs.Store.{tree_at, trees_at}
 use Rattle.qterm.specs.Kids.{kids, listed}

@@ -1,4 +1,4 @@
-use Rattle.std.proofs.Common.{◌∙◌, sym, ap, [], ◌∷◌}
+use Rattle.std.proofs.Common.{◌∙◌, sym, ap, []}
 use Rattle.qterm.specs.Store.{HasSort}
 use Rattle.qterm.specs.declared.name.Sort.TheVariants.{Bool}
 use Rattle.qterm.proofs.Alls.{All-nil, All-cons}

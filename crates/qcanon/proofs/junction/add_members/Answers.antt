@@ -1,10 +1,7 @@
-use Rattle.std.proofs.Common.{◌≡◌, ◌++◌, ◌∙◌, sym, ap, true, false, not, subst, All, ℕ, List}
-use Rattle.qterm.specs.Tree.{Tree, And, Or}
-use Rattle.qterm.specs.Store.{grow, HasSort, trees_at, tree_at, Fits}
+use Rattle.std.proofs.Common.{◌≡◌, ◌++◌, ◌∙◌, sym, ap, not, subst}
+use Rattle.qterm.specs.Tree.{And, Or}
+use Rattle.qterm.specs.Store.{grow, trees_at, tree_at, Fits}
 use Rattle.qlin.specs.Junction.{joined}
-use Rattle.qterm.specs.declared.term.Term.TheVariants as term
-use Rattle.qterm.specs.declared.name.Sort.TheVariants.{Bool}
-use Rattle.qcanon.specs.Junction.{AreMembers}
 use Rattle.qcanon.proofs.Junctions.{at_true, at_false, at_members, at_turned, at_other}
 use Rattle.qcanon.proofs.junction.add_members.Goals as goal
 

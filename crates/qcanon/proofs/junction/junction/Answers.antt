@@ -1,6 +1,5 @@
-use Rattle.std.proofs.Common.{◌≡◌, subst, sym, IfOk, true, not}
+use Rattle.std.proofs.Common.{◌≡◌, subst, IfOk, true, not}
 use Rattle.std.specs.Prelude.{MatchOption}
-use Rattle.qterm.specs.Tree.{Tree}
 use Rattle.qterm.specs.Store.{trees_at, Shows}
 use Rattle.qterm.specs.declared.name.Sort.TheVariants.{Bool}
 use Rattle.qlin.specs.Junction.{has_constant}

@@ -1,8 +1,8 @@
-use Rattle.std.proofs.Common.{◌≡◌, ◌∙◌, sym, ap, subst, IfOk, length, arith, true, false, ℕ, List}
-use Rattle.qterm.specs.Tree.{Tree, And, Or}
+use Rattle.std.proofs.Common.{◌∙◌, sym, ap, subst, IfOk, length}
+use Rattle.qterm.specs.Tree.{And, Or}
 use Rattle.qterm.specs.Store.{trees_at, Shows}
-use Rattle.qlin.specs.Junction.{packed, joined}
-use Rattle.qcanon.proofs.Junctions.{packed_one, packed_more, packed_none}
+use Rattle.qlin.specs.Junction.{joined}
+use Rattle.qcanon.proofs.Junctions.{packed_more}
 use Rattle.qcanon.proofs.junction.pack.Goals as goal
 
 pub returns-then-is_and-clause-shows : goal.returns-then-is_and-clause-shows

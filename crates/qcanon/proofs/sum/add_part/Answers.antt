@@ -1,4 +1,4 @@
-use Rattle.std.proofs.Common.{◌≡◌, ◌∙◌, sym, ap, subst, rules, true, to_z, of_z}
+use Rattle.std.proofs.Common.{◌≡◌, ◌∙◌, sym, ap, subst, rules}
 use Rattle.std.specs.Prelude.{◌+ℤ◌, nat_eq}
 use Rattle.std.specs.Int.{w128}
 use Rattle.std.specs.List.{IsDistinct}

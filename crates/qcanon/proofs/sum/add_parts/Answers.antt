@@ -1,4 +1,4 @@
-use Rattle.std.proofs.Common.{◌≡◌, sym, subst, true, false}
+use Rattle.std.proofs.Common.{subst, true, false}
 use Rattle.qcanon.specs.Sums.{IsPartAdded}
 use Rattle.qlin.proofs.Readings.{ints_at}
 use Rattle.qcanon.proofs.Sums.{adds, adds_same, adds_wide, adds_end}
