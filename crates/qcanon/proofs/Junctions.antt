@@ -16,11 +16,11 @@ pub trees_append : (ts : List Tree) (is js : List ℕ) → trees_at ts (is ++ js
 trees_append ts [] js = refl
 trees_append ts (i ∷ is) js = ap (more (tree_at ts i)) (trees_append ts is js)
 
-all_append : (P : ℕ → Type 0) (is js : List ℕ) → All P is → All P js → All P (is ++ js)
+pub all_append : (P : ℕ → Type 0) (is js : List ℕ) → All P is → All P js → All P (is ++ js)
 all_append P [] js a b = b
 all_append P (i ∷ is) js a b = All-cons P i (is ++ js) (All-head P i is a) (all_append P is js (All-tail P i is a) b)
 
-joined_none : (us : Trees) → us ≡ joined_lists us none
+pub joined_none : (us : Trees) → us ≡ joined_lists us none
 joined_none none = refl
 joined_none (more u us) = ap (more u) (joined_none us)
 
@@ -68,11 +68,11 @@ at_other ts k i t old new e a b c d h n =
     more_members ts k i old (i ∷ []) new ((λ x. more (e x) none) ∙ p.alone ∙ ap (members k) (sym e)) (p.apart ∙ ap (λ x. same x (truth_tree (not k))) (sym e)) (All-cons (HasSort Bool ts) i [] h (All-nil (HasSort Bool ts))) n
 
 -- ---- gathering
-joined_assoc : (ts us vs : Trees) → joined_lists (joined_lists ts us) vs ≡ joined_lists ts (joined_lists us vs)
+pub joined_assoc : (ts us vs : Trees) → joined_lists (joined_lists ts us) vs ≡ joined_lists ts (joined_lists us vs)
 joined_assoc none us vs = refl
 joined_assoc (more t ts) us vs = ap (more t) (joined_assoc ts us vs)
 
-inserts_joined : (ts us vs : Trees) → inserts (joined_lists ts us) vs ≡ inserts ts (inserts us vs)
+pub inserts_joined : (ts us vs : Trees) → inserts (joined_lists ts us) vs ≡ inserts ts (inserts us vs)
 inserts_joined none us vs = refl
 inserts_joined (more t ts) us vs = ap (Rattle.qlin.specs.Junction.insert t) (inserts_joined ts us vs)
 
@@ -88,7 +88,7 @@ pub junction_absorbed : (k : Truth) (ts : Trees) → has_constant (not k) ts ≡
 junction_absorbed k ts e = sym (ap (λ b. Rattle.std.proofs.Common.cond b (truth_tree (not k)) (packed k (gathered k ts))) e)
 
 -- a prefix of the list
-flat_joined : (k : Truth) (ts us : Trees) → flat k (joined_lists ts us) ≡ joined_lists (flat k ts) (flat k us)
+pub flat_joined : (k : Truth) (ts us : Trees) → flat k (joined_lists ts us) ≡ joined_lists (flat k ts) (flat k us)
 flat_joined k none us = refl
 flat_joined k (more t ts) us = ap (joined_lists (members k t)) (flat_joined k ts us) ∙ sym (joined_assoc (members k t) (flat k ts) (flat k us))
 

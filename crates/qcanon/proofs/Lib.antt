@@ -1,4 +1,7 @@
 pub mod Junctions
+pub mod Chains
+pub mod Nesting
+pub mod Joining
 pub mod Pairs
 pub mod Negated
 pub mod Opposites

@@ -1,4 +1,5 @@
 pub mod Answer
+pub mod Chain
 pub mod Junction
 pub mod List
 pub mod Negation

@@ -5,6 +5,7 @@
 #![tactic(auto)]
 
 mod atom;
+mod chain;
 mod error;
 mod form;
 mod iff;

@@ -34,7 +34,8 @@ pub fn canon_list(alloc: Global, store: &mut Store, list: &[TermId]) -> Result<T
 {
     store.is_lawful();
     let mut forms = Forms::new(alloc);
-    let outs = fold_all(alloc, store, &mut forms, list)?;
+    let answers = fold_all(alloc, store, &mut forms, list)?;
+    let outs = forms.settle_all(store, answers.as_slice())?;
     if let Some(term) = first_fault(outs.as_slice()) {
         return Err(CanonError::TooWide { term });
     }

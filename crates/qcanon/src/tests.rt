@@ -383,25 +383,56 @@ fn a_conjunction_of_many_parts(rt: HostRuntime) -> Result<(), Fail> {
     Ok(())
 }
 
-/// The chain `And(.. And(And(p), p) .., p)` of some levels.
-fn chain(alloc: Global, store: &mut Store, levels: usize) -> Result<TermId, AllocError> {
-    let p = name(alloc, store, b'p', Sort::Bool)?;
-    let q = name(alloc, store, b'q', Sort::Bool)?;
-    let mut top = q;
-    for _ in 0..levels {
-        top = kept(store, Term::And(TermIds::from_vec(vec![in alloc; top, p]?)))?;
+/// The chain of the parts in the order of their rows, innermost first: each level has one of them at this side.
+fn chain(
+    alloc: Global,
+    store: &mut Store,
+    is_and: bool,
+    is_left: bool,
+    parts: &[TermId],
+) -> Result<TermId, AllocError> {
+    let mut top = kept(store, if is_and { Term::True } else { Term::False })?;
+    for part in parts {
+        let pair = if is_left { [*part, top] } else { [top, *part] };
+        let ids = TermIds::from_vec(Vec::from_array(alloc, pair)?);
+        top = kept(
+            store,
+            if is_and {
+                Term::And(ids)
+            } else {
+                Term::Or(ids)
+            },
+        )?;
     }
     Ok(top)
 }
 
+/// Whether the chains are of And, and whether each level has its part at the left.
+const CHAINS: [(bool, bool); 3] = [(true, false), (true, true), (false, false)];
+
 #[test]
-fn a_chain_of_many_levels(rt: HostRuntime) -> Result<(), Fail> {
+fn chains_of_many_levels(rt: HostRuntime) -> Result<(), Fail> {
     let alloc = rt.alloc();
     let mut store = Store::new(alloc);
-    let top = chain(alloc, &mut store, 100_000)?;
-    let both = read(alloc, &mut store, b"p q 2&")?;
-    assert!(rt; store.has(top));
-    let found = canon(alloc, &mut store, top).map_err(fails)?;
-    assert!(rt; both.as_slice() == [found].as_slice());
+    let x = name(alloc, &mut store, b'x', Sort::Int)?;
+    let mut ids = Vec::new(alloc);
+    bounds(&mut store, x, 100_000, &mut ids)?;
+    let mut parts = ids.clone()?;
+    parts.reverse();
+    for (at, (is_and, is_left)) in CHAINS.iter().enumerate() {
+        let top = chain(alloc, &mut store, *is_and, *is_left, parts.as_slice())?;
+        let all = TermIds::from_vec(ids.clone()?);
+        let wanted = kept(
+            &mut store,
+            if *is_and {
+                Term::And(all)
+            } else {
+                Term::Or(all)
+            },
+        )?;
+        assert!(rt; store.has(top));
+        let found = canon(alloc, &mut store, top).map_err(fails)?;
+        assert!(rt; found == wanted, "row {at}");
+    }
     Ok(())
 }

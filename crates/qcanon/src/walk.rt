@@ -9,9 +9,11 @@ ghost use Rattle.qlin.specs.Canon.{canon, at};
 ghost use Rattle.qlin.specs.Junction.{junction};
 ghost use Rattle.qcanon.specs.Answer.{IsOwn, Answers};
 ghost use Rattle.qcanon.specs.Walk.{over, IsFound, id_of, first_fault, answer_of, NamesFault};
+ghost use Rattle.qcanon.specs.Chain.{IsSound, IsAnswer, Links, AreReady};
 ghost use Rattle.qcanon.specs.Negation.{AreNegations};
 
 use crate::atom::{at_most, equal, number, scale};
+use crate::chain::{Answer, Load, Settled, connective, join, link, link_all};
 use crate::error::CanonError;
 use crate::iff::iff;
 use crate::ite::ite;
@@ -22,7 +24,7 @@ use qterm::{Store, Term, TermId};
 use qwalk::{Fold, fold_terms};
 use std::alloc::{AllocError, Global};
 
-/// The canonical term, at a cost in proportion to the distinct subterms that are reached and their children.
+/// The canonical term. Each distinct subterm is asked once, and the levels of a chain of And or Or are joined together.
 ///
 /// All children are taken, also those of a branch that is folded away. Where a number leaves the range of the canonical form,
 /// `TooWide` has the first such subterm in postorder.
@@ -35,12 +37,13 @@ pub fn canon(alloc: Global, store: &mut Store, id: TermId) -> Result<TermId, Can
 {
     store.is_lawful();
     let mut forms = Forms::new(alloc);
-    let found = fold_terms(alloc, store, &mut forms, id)?;
-    answer(&found)
+    let answer = fold_terms(alloc, store, &mut forms, id)?;
+    let found = forms.settle(store, &answer)?;
+    told(&found)
 }
 
 /// A canonical term, or the subterm without one as an error.
-fn answer(found: &Outcome) -> Result<TermId, CanonError>
+fn told(found: &Outcome) -> Result<TermId, CanonError>
     ensures { result ≡ answer_of found.now }
 {
     match found {
@@ -56,45 +59,93 @@ pub(crate) enum Outcome {
     Faulty(TermId),
 }
 
-/// The walk's own state: the negations that it took.
+/// The walk's own state: the negations that it took, and the canonical forms of nested terms that it needed.
 #[derive(Drop)]
 pub(crate) struct Forms {
     alloc: Global,
     table: Negations,
+    settled: Settled,
 }
 
 impl Forms {
-    /// No negation taken yet.
+    /// Nothing taken yet.
     pub(crate) fn new(alloc: Global) -> Forms
-        ensures { (ts : List Tree) → AreNegations ts result.table }
+        ensures { (ts : List Tree) → AreReady ts result }
     {
         Forms {
             alloc,
             table: Negations::new(alloc),
+            settled: Settled::new(alloc),
         }
+    }
+
+    /// The canonical term of what a root answered.
+    pub(crate) fn settle(
+        &mut self,
+        store: &mut Store,
+        answer: &Answer,
+    ) -> Result<Outcome, AllocError>
+        requires sound { IsSound store.old answer.now }
+        requires ready { AreReady store.old self.old }
+        ensures links { IfOk result (Links store.old store.new None answer.now) }
+        ensures extends { Extends store.old store.new }
+    {
+        let mut load = Load::none();
+        link(store, &mut self.settled, None, answer, &mut load)
+    }
+
+    /// The canonical terms of what several roots answered.
+    pub(crate) fn settle_all(
+        &mut self,
+        store: &mut Store,
+        answers: &[Answer],
+    ) -> Result<Vec<Outcome>, AllocError>
+        requires sound { All (IsSound store.old) answers.now }
+        requires ready { AreReady store.old self.old }
+        ensures links { IfOk result (λ v. AllZip (Links store.old store.new None) answers.now v.items) }
+        ensures ready { AreReady store.new self.new }
+        ensures extends { Extends store.old store.new }
+    {
+        let mut load = Load::none();
+        link_all(
+            self.alloc,
+            store,
+            &mut self.settled,
+            None,
+            answers,
+            &mut load,
+        )
     }
 }
 
-impl Fold<Outcome> for Forms {
+impl Fold<Answer> for Forms {
     type Task = ();
 
     ghost task = { λ f. tt };
 
-    ghost ready = { λ f ts. AreNegations ts f.table };
+    ghost ready = { λ f ts. AreReady ts f };
 
-    ghost right = { λ f ts t o. IsFound ts t o };
+    ghost right = { λ f ts t a. IsAnswer ts t a };
 
     fn node(
         &mut self,
         store: &mut Store,
         id: TermId,
-        outs: &[Outcome],
-    ) -> Result<Outcome, AllocError> {
-        find(self.alloc, store, &mut self.table, id, outs)
+        answers: &[Answer],
+    ) -> Result<Answer, AllocError> {
+        store.is_lawful();
+        match connective(store, id) {
+            Some(is_and) => join(self.alloc, store, &mut self.settled, is_and, id, answers),
+            None => {
+                let outs = self.settle_all(store, answers)?;
+                let found = find(self.alloc, store, &mut self.table, id, outs.as_slice())?;
+                Ok(Answer::Found(found))
+            }
+        }
     }
 }
 
-/// What a term answers, from what its children answer.
+/// What is found for a term, from what is found for its children.
 fn find(
     alloc: Global,
     store: &mut Store,
