@@ -298,3 +298,29 @@ fn counts_levels_and_branches(rt: HostRuntime) -> Result<(), Fail> {
     assert_eq!(rt; read(alloc, more.as_slice(), None).err(), fault);
     Ok(())
 }
+
+/// The written spelling of a text that is read.
+fn spelling(text: &'static [u8]) -> &'static [u8] {
+    if text == b"(fail-if (- 0))".as_slice() {
+        b"(fail-if 0)"
+    } else if text == b"(repeat a)".as_slice() {
+        b"(repeat a 1000)"
+    } else if text == b" ; a comment\n( then  a\tb )".as_slice() {
+        b"(then a b)"
+    } else {
+        text
+    }
+}
+
+#[test]
+fn writes_what_is_read(rt: HostRuntime) -> Result<(), Fail> {
+    let alloc = rt.alloc();
+    for (text, _, _) in READ {
+        let strategy = read(alloc, text, None)?;
+        let allowed = is_allowed(&strategy);
+        assert!(rt; allowed);
+        let written = write_strategy(alloc, &strategy)?;
+        assert_eq!(rt; written.as_slice(), spelling(text));
+    }
+    Ok(())
+}
