@@ -120,7 +120,7 @@ module _ (args : Forms) (at : ℕ) (inner : Agrees (read_probes args) (probes_fa
   row_agrees : (make : List ProbeExpr → ProbeExpr) → Agrees (and_then (read_probes args) (λ parts. and_then (least_of 1 at parts) (λ all. Ok (make all)))) (probes_faults args ++ bad_unless (nat_le 1 (count args)) at)
   row_agrees make = agrees_then (read_probes args) (λ parts. and_then (least_of 1 at parts) (λ all. Ok (make all))) (probes_faults args) (bad_unless (nat_le 1 (count args)) at) inner (λ ps e.
       subst (λ n. Agrees (and_then (least_of 1 at ps) (λ all. Ok (make all))) (bad_unless (nat_le 1 n) at)) (probes_count args ps (read_probes_spelled args ps e))
-        (agrees_made (least_of 1 at ps) make (bad_unless (nat_le 1 (length ps)) at) (least_agrees 1 at ps)))
+      (agrees_made (least_of 1 at ps) make (bad_unless (nat_le 1 (length ps)) at) (least_agrees 1 at ps)))
 
   not_agrees : Agrees (and_then (read_probes args) (λ parts. and_then (one_of at parts) (λ part. Ok (probe.Not part)))) (probes_faults args ++ bad_unless (nat_le 1 (count args) && nat_le (count args) 1) at)
   not_agrees = agrees_then (read_probes args) (λ parts. and_then (one_of at parts) (λ part. Ok (probe.Not part))) (probes_faults args) (bad_unless (nat_le 1 (count args) && nat_le (count args) 1) at) inner (λ ps e.
@@ -216,9 +216,9 @@ settings_agree none = fine (Some [])
 settings_agree (more key none) = agrees_made (read_key key) (λ _. None) (key_faults key) (read_key_agrees key)
 settings_agree (more key (more value rest)) =
     subst (Agrees (and_then (read_setting key value) (λ setting. and_then (read_settings rest) (λ settings. Ok (with_setting setting settings)))))
-      (append_assoc (key_faults key) (range_faults (place_of value) (key_in key) (number_of value)) (settings_faults rest))
-      (agrees_then (read_setting key value) (λ setting. and_then (read_settings rest) (λ settings. Ok (with_setting setting settings))) (key_faults key ++ range_faults (place_of value) (key_in key) (number_of value)) (settings_faults rest)
-        (setting_agrees key value) (λ setting h. agrees_made (read_settings rest) (λ settings. with_setting setting settings) (settings_faults rest) (settings_agree rest)))
+    (append_assoc (key_faults key) (range_faults (place_of value) (key_in key) (number_of value)) (settings_faults rest))
+    (agrees_then (read_setting key value) (λ setting. and_then (read_settings rest) (λ settings. Ok (with_setting setting settings))) (key_faults key ++ range_faults (place_of value) (key_in key) (number_of value)) (settings_faults rest)
+    (setting_agrees key value) (λ setting h. agrees_made (read_settings rest) (λ settings. with_setting setting settings) (settings_faults rest) (settings_agree rest)))
 
 -- what settings are there
 there : {A : Type 0} → Option A → Bool
@@ -336,19 +336,19 @@ repeat_agrees : (at : ℕ) (args : Forms) (s : Strategy) → Agrees (repeat_of a
 repeat_agrees at none s = fine (strategy.Repeat s TURNS)
 repeat_agrees at (more form none) s =
     subst (λ b. Agrees (repeat_of at (more form none) s) (limit_faults (place_of form) 4294967295 (numeral_of form) ++ bad_unless b at)) (and_true (is_numeral_form (numeral_of form)))
-      (limited_agrees at 4294967295 form none (λ turns. strategy.Repeat s turns) (numeral_of form))
+    (limited_agrees at 4294967295 form none (λ turns. strategy.Repeat s turns) (numeral_of form))
 repeat_agrees at (more form (more next rest)) s =
     subst (λ b. Agrees (repeat_of at (more form (more next rest)) s) (limit_faults (place_of form) 4294967295 (numeral_of form) ++ bad_unless b at)) (no_more next rest (is_numeral_form (numeral_of form)))
-      (limited_agrees at 4294967295 form (more next rest) (λ turns. strategy.Repeat s turns) (numeral_of form))
+    (limited_agrees at 4294967295 form (more next rest) (λ turns. strategy.Repeat s turns) (numeral_of form))
 
 try_agrees : (at : ℕ) (args : Forms) (s : Strategy) → Agrees (try_for_of at args s) (turns_faults 4611686018427387904 args ++ bad_unless (is_limit args) at)
 try_agrees at none s = alone _ (BadStrategy at)
 try_agrees at (more form none) s =
     subst (λ b. Agrees (try_for_of at (more form none) s) (limit_faults (place_of form) 4611686018427387904 (numeral_of form) ++ bad_unless b at)) (and_true (is_numeral_form (numeral_of form)))
-      (limited_agrees at 4611686018427387904 form none (λ limit. strategy.TryFor s limit) (numeral_of form))
+    (limited_agrees at 4611686018427387904 form none (λ limit. strategy.TryFor s limit) (numeral_of form))
 try_agrees at (more form (more next rest)) s =
     subst (λ b. Agrees (try_for_of at (more form (more next rest)) s) (limit_faults (place_of form) 4611686018427387904 (numeral_of form) ++ bad_unless b at)) (no_more next rest (is_numeral_form (numeral_of form)))
-      (limited_agrees at 4611686018427387904 form (more next rest) (λ limit. strategy.TryFor s limit) (numeral_of form))
+    (limited_agrees at 4611686018427387904 form (more next rest) (λ limit. strategy.TryFor s limit) (numeral_of form))
 
 params_agree : (at : ℕ) (args : Forms) (s : Strategy) → Agrees (params_of at args s) (settings_faults args ++ bad_unless (are_pairs args && nat_le 1 (count args)) at)
 params_agree at args s = agrees_then (read_settings args) (with_settings at s) (settings_faults args) (bad_unless (are_pairs args && nat_le 1 (count args)) at) (settings_agree args)

@@ -1,7 +1,7 @@
 //! Strategies as text: the language in which users write strategies, read and written exactly.
 //!
 //! The contract for the layer above: `read_strategy` gives the strategy that an s-expression spells, or the first of its
-//! faults. It stands on `sexp_read` for the s-expressions.
+//! faults, and what `write_strategy` wrote is read back. It stands on `sexp_read` for the s-expressions.
 #![tactic(auto)]
 
 mod allowed;
@@ -16,6 +16,8 @@ mod read;
 mod read_probe;
 mod settings;
 mod strategy;
+#[cfg(test)]
+mod tests;
 mod words;
 mod write;
 
@@ -26,6 +28,3 @@ pub use probe::ProbeExpr;
 pub use read::read_strategy;
 pub use strategy::{ParamKey, Strategy};
 pub use write::write_strategy;
-
-#[cfg(test)]
-mod tests;
