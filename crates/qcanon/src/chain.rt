@@ -2,7 +2,7 @@
 //!
 //! The canonical form of each level of a chain has the members of all levels below it, so that to make each would take quadratic
 //! time. So an And or Or may stay nested: a term over terms of its kind that aren't joined yet. It is made canonical where this is
-//! needed, or once the formulas under it are twice as many as the largest canonical formula among them has.
+//! needed, or once it is four times as large as the largest canonical formula in it. This choice changes no form, only the time.
 ghost use Rattle.std.specs.Prelude.{◌≡◌, IfOk, OnOk, OnErr, MatchOption, All, Some, None, Ok, ℕ, List, Bool as Truth, cond, nat_eq, option_map};
 ghost use Rattle.std.specs.List.{AllZip};
 ghost use Rattle.std.specs.HashMap.{get};
@@ -36,25 +36,25 @@ pub(crate) struct Chain {
     load: Load,
 }
 
-/// How many formulas are under a connective, and how many members the largest canonical formula among them has.
+/// How many connectives and formulas there are, and how many members the largest canonical formula among them has.
 #[derive(Clone, Copy)]
 pub(crate) struct Load {
-    formulas: usize,
+    size: usize,
     largest: usize,
 }
 
 impl Load {
-    /// Nothing yet.
-    pub(crate) fn none() -> Load {
+    /// A connective, over nothing yet.
+    pub(crate) fn new() -> Load {
         Load {
-            formulas: 0,
+            size: 1,
             largest: 0,
         }
     }
 
     /// Counts what is under a part.
     fn add(&mut self, part: Load) {
-        self.formulas = self.formulas.saturating_add(part.formulas);
+        self.size = self.size.saturating_add(part.size);
         if part.largest > self.largest {
             self.largest = part.largest;
         }
@@ -62,7 +62,7 @@ impl Load {
 
     /// Whether the canonical form can wait.
     fn is_light(self) -> bool {
-        self.formulas < self.largest.saturating_mul(2)
+        self.size < self.largest.saturating_mul(4)
     }
 }
 
@@ -125,7 +125,7 @@ pub(crate) fn join(
     ensures extends { Extends store.old store.new }
 {
     store.is_lawful();
-    let mut load = Load::none();
+    let mut load = Load::new();
     let outs = link_all(alloc, store, settled, Some(is_and), answers, &mut load)?;
     if let Some(fault) = first_fault(outs.as_slice()) {
         return Ok(Answer::Found(Outcome::Faulty(fault)));
@@ -225,22 +225,37 @@ fn settle(store: &mut Store, settled: &mut Settled, chain: &Chain) -> Result<Ter
     Ok(form)
 }
 
-/// What is under a canonical term below a connective.
+/// What a canonical term counts below a connective. One that absorbs the others is too much to wait with.
 fn load_of(store: &Store, below: Option<bool>, id: TermId) -> Load
     requires has { Has store.now id }
 {
     let Some(is_and) = below else {
-        return Load::none();
+        return Load::new();
     };
     match parts(store, is_and, id) {
         Some(ids) => Load {
-            formulas: ids.len(),
+            size: ids.len(),
             largest: ids.len(),
         },
         None => Load {
-            formulas: 1,
+            size: if absorbs(store, is_and, id) {
+                usize::MAX
+            } else {
+                1
+            },
             largest: 0,
         },
+    }
+}
+
+/// Whether a term is the constant that absorbs all others below a connective.
+fn absorbs(store: &Store, is_and: bool, id: TermId) -> bool
+    requires has { Has store.now id }
+{
+    match store.view(id) {
+        Term::True => !is_and,
+        Term::False => is_and,
+        _ => false,
     }
 }
 

@@ -90,7 +90,7 @@ impl Forms {
         ensures links { IfOk result (Links store.old store.new None answer.now) }
         ensures extends { Extends store.old store.new }
     {
-        let mut load = Load::none();
+        let mut load = Load::new();
         link(store, &mut self.settled, None, answer, &mut load)
     }
 
@@ -106,7 +106,7 @@ impl Forms {
         ensures ready { AreReady store.new self.new }
         ensures extends { Extends store.old store.new }
     {
-        let mut load = Load::none();
+        let mut load = Load::new();
         link_all(
             self.alloc,
             store,
