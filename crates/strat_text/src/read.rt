@@ -1,13 +1,15 @@
 //! Strategies read from s-expressions.
-ghost use Rattle.std.specs.Prelude.{◌≡◌, Ok, IfOk};
+ghost use Rattle.std.specs.Prelude.{◌≡◌, true, Ok, IfOk};
 ghost use Rattle.std.specs.List.{list_any};
 ghost use Rattle.std.specs.Option.{option_copied};
 ghost use Rattle.std.specs.Str.{bytes_eq};
+ghost use Rattle.strat_text.specs.Allowed.{is_allowed};
 ghost use Rattle.strat_text.specs.Form as form;
 ghost use Rattle.strat_text.specs.Grammar as grammar;
 ghost use Rattle.strat_text.specs.Reading as spec;
 ghost use Rattle.strat_text.specs.Faults as told;
 ghost use Rattle.strat_text.specs.Given.{Gives, Tells, after};
+ghost use Rattle.strat_text.specs.Known.{are_known};
 
 use crate::error::StratError;
 use crate::form::{head_in, place, text_at};
@@ -37,6 +39,8 @@ pub fn read_strategy(
     ensures spelled { IfOk result (grammar.Spells (option_copied reducers.entry) DEPTH (form.form_of bytes.now sexp.now)) }
     ensures complete { (s : Strategy) → grammar.Spells (option_copied reducers.entry) DEPTH (form.form_of bytes.now sexp.now) s → Gives result (Ok s) }
     ensures told { Tells result (told.faults (option_copied reducers.entry) (form.form_of bytes.now sexp.now) DEPTH) }
+    ensures allowed { IfOk result (λ s. is_allowed s ≡ true) }
+    ensures known { IfOk result (λ s. are_known (option_copied reducers.entry) s ≡ true) }
 {
     read_at(alloc, bytes, sexp, reducers, DEPTH)
 }
