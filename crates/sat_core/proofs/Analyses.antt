@@ -118,10 +118,10 @@ false_here trail marks l c n = elim (or_cases (has_number marks l.var) (has trai
 pub set_of_false : (trail : List Lit) (l : Lit) → has trail (negate l) ≡ true → has_var trail l.var ≡ true
 set_of_false trail l h = has_gives_var trail (negate l) h
 
-lt_yes : (a b : ℕ) → a < b → nat_lt a b ≡ true
+pub lt_yes : (a b : ℕ) → a < b → nat_lt a b ≡ true
 lt_yes a b h = grind (arith, nat_tests)
 
-lt_no : (a b : ℕ) → b ≤ a → nat_lt a b ≡ false
+pub lt_no : (a b : ℕ) → b ≤ a → nat_lt a b ≡ false
 lt_no a b h = grind (arith, nat_tests)
 
 pub noted_lower : (trail : List Lit) (start : ℕ) (marks : List ℕ) (lower : List Lit) (l : Lit) (p : ℕ) → apart trail ≡ true → has trail (negate l) ≡ true → IsPlace trail l.var p → p < start → Noted trail start marks lower → Noted trail start (marks ++ l.var ∷ []) (lower ++ negate l ∷ [])

@@ -10,4 +10,6 @@ pub mod Passes
 pub mod Quiet
 pub mod Boundaries
 pub mod Analyses
+pub mod Appends
+pub mod Jumps
 pub mod Pieces

@@ -9,4 +9,6 @@ pub mod Watching
 pub mod Lists
 pub mod Tables
 pub mod Analyzing
+pub mod Appending
+pub mod Jumping
 pub mod Solving

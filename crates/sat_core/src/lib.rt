@@ -5,8 +5,10 @@
 #![tactic(auto)]
 
 mod analyze;
+mod append;
 mod arena;
 mod assigned;
+mod backtrack;
 mod decide;
 mod learn;
 mod marks;
