@@ -28,7 +28,7 @@ none_push [] a (suc x) p = refl
 none_push (v ∷ vs) a zero p = a zero p
 none_push (v ∷ vs) a (suc x) p = none_push vs (λ y q. a (suc y) q) x p
 
-set_same : {X : Type 0} (xs : List X) (n : ℕ) (v : X) → n < length xs → slice_get (slice_set xs n v) n ≡ Some v
+pub set_same : {X : Type 0} (xs : List X) (n : ℕ) (v : X) → n < length xs → slice_get (slice_set xs n v) n ≡ Some v
 set_same {X} [] n v h = absurd (omega arith)
 set_same {X} (x ∷ xs) zero v h = refl
 set_same {X} (x ∷ xs) (suc n) v h = set_same xs n v (omega (arith, h))
@@ -36,20 +36,20 @@ set_same {X} (x ∷ xs) (suc n) v h = set_same xs n v (omega (arith, h))
 suc_ne : (n m : ℕ) → (suc n == suc m) ≡ false → (n == m) ≡ false
 suc_ne n m h = ne_to n m (λ e. both_ways (suc n == suc m) (let f : suc n ≡ suc m = ap suc e in grind (arith, nat_tests)) h)
 
-set_other : {X : Type 0} (xs : List X) (n m : ℕ) (v : X) → (n == m) ≡ false → slice_get (slice_set xs n v) m ≡ slice_get xs m
+pub set_other : {X : Type 0} (xs : List X) (n m : ℕ) (v : X) → (n == m) ≡ false → slice_get (slice_set xs n v) m ≡ slice_get xs m
 set_other {X} [] n m v h = refl
 set_other {X} (x ∷ xs) zero zero v h = absurd (both_ways _ refl h)
 set_other {X} (x ∷ xs) zero (suc m) v h = refl
 set_other {X} (x ∷ xs) (suc n) zero v h = refl
 set_other {X} (x ∷ xs) (suc n) (suc m) v h = set_other xs n m v (suc_ne n m h)
 
-no_lit_of : (xs : List Lit) (x : ℕ) (p : Bool) → has_var xs x ≡ false → has xs (record { var = x; positive = p }) ≡ false
+pub no_lit_of : (xs : List Lit) (x : ℕ) (p : Bool) → has_var xs x ≡ false → has xs (record { var = x; positive = p }) ≡ false
 no_lit_of [] x p h = refl
 no_lit_of (l ∷ ls) x p h =
     let none : ((l.var == x) ≡ false) × (has_var ls x ≡ false) = or_false _ _ h in
     rw (none.0, no_lit_of ls x p none.1) refl
 
-self_eq : (n : ℕ) → (n == n) ≡ true
+pub self_eq : (n : ℕ) → (n == n) ≡ true
 self_eq n = grind (arith, nat_tests)
 
 pub set_agrees : (values : List (Option Bool)) (trail : List Lit) (l : Lit) → Agrees values trail → l.var < length values → has_var trail l.var ≡ false → Agrees (slice_set values l.var (Some l.positive)) (trail ++ l ∷ [])

@@ -105,7 +105,7 @@ decided_none ts d l (k ∷ ks) w n q =
 not_in : (d ts : List Lit) (l : Lit) → within d ts ≡ true → has ts l ≡ false → has d l ≡ false
 not_in d ts l w n = elim (true_or_false (has d l)) [ inl there ↦ absurd (both_ways _ (has_within d ts l w there) n) | inr gone ↦ gone ]
 
-lt_to : (a b : ℕ) → a < b → nat_lt a b ≡ true
+pub lt_to : (a b : ℕ) → a < b → nat_lt a b ≡ true
 lt_to a b h = grind (arith, nat_tests)
 
 -- a decision after complete propagation

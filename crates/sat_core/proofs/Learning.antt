@@ -26,7 +26,7 @@ use Rattle.sat_core.proofs.Decisions.{in_negated, negate_push}
 
 -- ---- fewer decisions
 
-set_front : (vars : ℕ) (d : List Lit) (l : Lit) → AreSet vars (d ++ l ∷ []) → AreSet vars d
+pub set_front : (vars : ℕ) (d : List Lit) (l : Lit) → AreSet vars (d ++ l ∷ []) → AreSet vars d
 set_front vars d l s = record {
   below = and_left (below vars d) _ (sym (list_all-append (λ (m : Lit). nat_lt m.var vars) d (l ∷ [])) ∙ s.below);
   apart = apart_front d (l ∷ []) s.apart;

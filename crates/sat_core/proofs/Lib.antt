@@ -3,3 +3,13 @@ pub mod Codes
 pub mod Decisions
 pub mod Learning
 pub mod Agreeing
+pub mod Slots
+pub mod Visits
+pub mod Turns
+pub mod Passes
+pub mod Quiet
+pub mod Boundaries
+pub mod Analyses
+pub mod Appends
+pub mod Jumps
+pub mod Pieces

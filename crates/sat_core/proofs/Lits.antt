@@ -176,7 +176,7 @@ going_fixed vars known start trues hints q g = record { quiet = q; are_set = g.a
 
 -- ---- fewer literals that are apart
 
-has_var_front : (xs ys : List Lit) (x : ℕ) → has_var (xs ++ ys) x ≡ false → has_var xs x ≡ false
+pub has_var_front : (xs ys : List Lit) (x : ℕ) → has_var (xs ++ ys) x ≡ false → has_var xs x ≡ false
 has_var_front [] ys x h = refl
 has_var_front (l ∷ ls) ys x h =
     let none : ((l.var == x) ≡ false) × (has_var (ls ++ ys) x ≡ false) = or_false _ _ h in

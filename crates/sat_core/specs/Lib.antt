@@ -5,4 +5,10 @@ pub mod Models
 pub mod Search
 pub mod Lines
 pub mod Calls
+pub mod Watching
+pub mod Lists
+pub mod Tables
+pub mod Analyzing
+pub mod Appending
+pub mod Jumping
 pub mod Solving

@@ -4,14 +4,23 @@
 //! The contract for the layer above is that of `Solver::solve`. The crate stands on `rup`.
 #![tactic(auto)]
 
+mod analyze;
+mod append;
+mod arena;
 mod assigned;
+mod backtrack;
 mod decide;
 mod learn;
+mod marks;
+mod process;
 mod propagate;
 mod solver;
 #[cfg(test)]
 mod tests;
+mod trail;
+mod visit;
 mod watch;
+mod watches;
 
 pub use solver::{RupLine, Solved, Solver, are_below};
 pub use watch::Watch;
