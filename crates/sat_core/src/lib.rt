@@ -10,6 +10,7 @@ mod arena;
 mod assigned;
 mod backtrack;
 mod decide;
+mod descend;
 mod learn;
 mod marks;
 mod process;
