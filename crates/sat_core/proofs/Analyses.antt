@@ -193,7 +193,7 @@ single_by trail start at marks le n l h k =
 
 -- ---- the start: the clause that is false
 
-others_from : (trues : List Lit) (l : Lit) (ms : List Lit) → ((m : Lit) → has ms m ≡ true → (m ≡ l) ⊎ (has trues (negate m) ≡ true)) → others_false trues l ms ≡ true
+pub others_from : (trues : List Lit) (l : Lit) (ms : List Lit) → ((m : Lit) → has ms m ≡ true → (m ≡ l) ⊎ (has trues (negate m) ≡ true)) → others_false trues l ms ≡ true
 others_from trues l [] h = refl
 others_from trues l (m ∷ ms) h =
     and_both (same_lit m l || has trues (negate m)) _

@@ -19,7 +19,7 @@ use Rattle.sat_core.specs.Search.{is_neither, quiet, IsFixed, AreReady}
 use Rattle.sat_core.specs.declared.solver.RupLine.{RupLine}
 use Rattle.sat_core.specs.Lines.{Hints, follows, is_new, learnt, refutes, clauses_of}
 use Rattle.sat_core.specs.Calls.{Heard, HeardUntil}
-use Rattle.sat_core.specs.Solving.{Learns, InLimit, IsFound, IsRefuted, IsSpent, IsHalted, IsCutOff}
+use Rattle.sat_core.specs.Lemmas.{IsLemma}
 use Rattle.sat_core.proofs.Lits.{within_self, within_more, no_lit, apart_front, last_apart, has_gives_var}
 use Rattle.sat_core.proofs.Codes.{lines_below, lemmas_bound, eq_from}
 use Rattle.sat_core.proofs.Decisions.{in_negated, negate_push}
@@ -32,7 +32,7 @@ set_front vars d l s = record {
   apart = apart_front d (l ∷ []) s.apart;
 }
 
-negate_all_twice : (d : List Lit) → negate_all (negate_all d) ≡ d
+pub negate_all_twice : (d : List Lit) → negate_all (negate_all d) ≡ d
 negate_all_twice [] = refl
 negate_all_twice (l ∷ ls) = cc (negate_twice l, negate_all_twice ls)
 
@@ -136,16 +136,28 @@ lemma_no_pair d a = no_pair_in (negate_all d) (negate_all d) (apart_negated d a)
 nonempty_negated : (d : List Lit) (l : Lit) → is_empty (negate_all d ++ negate l ∷ []) ≡ false
 nonempty_negated d l = nonempty_push (negate_all d) (negate l)
 
-pub lemma_new : (vars : ℕ) (known : List (List Lit)) (d : List Lit) (l : Lit) → AreReady vars known (d ++ l ∷ []) → is_new known (negate_all (d ++ l ∷ [])) ≡ true
+lemma_new : (vars : ℕ) (known : List (List Lit)) (d : List Lit) (l : Lit) → AreReady vars known (d ++ l ∷ []) → is_new known (negate_all (d ++ l ∷ [])) ≡ true
 lemma_new vars known d l r =
     let some : is_empty (negate_all (d ++ l ∷ [])) ≡ false = ap is_empty (negate_push d l) ∙ nonempty_negated d l in
     let single : has_pair (negate_all (d ++ l ∷ [])) ≡ false = lemma_no_pair (d ++ l ∷ []) r.are_set.apart in
     let none : contains_none known (negate_all (d ++ l ∷ [])) ≡ true = ap (contains_none known) (negate_push d l) ∙ ready_none vars known d l r in
     rw (some, single, none) refl
 
-pub lemma_rup : (vars : ℕ) (known : List (List Lit)) (d : List Lit) (hints : List ℕ) → AreSet vars d → runs_out known d hints ≡ true → rup known (negate_all d) hints ≡ true
+lemma_rup : (vars : ℕ) (known : List (List Lit)) (d : List Lit) (hints : List ℕ) → AreSet vars d → runs_out known d hints ≡ true → rup known (negate_all d) hints ≡ true
 lemma_rup vars known d hints s r =
     rw (lemma_no_pair d s.apart, negate_all_twice d) r
+
+negated_below : (vars : ℕ) (d : List Lit) → below vars d ≡ true → below vars (negate_all d) ≡ true
+negated_below vars [] h = refl
+negated_below vars (l ∷ ls) h = and_both (nat_lt l.var vars) _ (and_left (nat_lt l.var vars) (below vars ls) h) (negated_below vars ls (and_right (nat_lt l.var vars) _ h))
+
+-- the negations of decisions that lead to a false clause are a lemma
+pub decisions_lemma : (vars : ℕ) (known : List (List Lit)) (d : List Lit) (l : Lit) (hints : List ℕ) → AreReady vars known (d ++ l ∷ []) → runs_out known (d ++ l ∷ []) hints ≡ true → IsLemma vars known (negate_all (d ++ l ∷ [])) hints
+decisions_lemma vars known d l hints r o = record {
+  in_range = negated_below vars (d ++ l ∷ []) r.are_set.below;
+  follows = lemma_rup vars known (d ++ l ∷ []) hints r.are_set o;
+  is_new = lemma_new vars known d l r;
+}
 
 -- ---- one more line
 
@@ -180,168 +192,3 @@ pub heard_until_push : {W : Type 0} (says : W → List Lit → Bool → W → Ty
 heard_until_push {W} says w m u [] c h s = subst (λ (x : W). says x c false u) (sym h) s
 heard_until_push {W} says w m u (d ∷ []) c h s = (h.0, h.1, heard_until_push says h.0 m u [] c h.2 s)
 heard_until_push {W} says w m u (d ∷ e ∷ cs) c h s = (h.0, h.1, heard_until_push says h.0 m u (e ∷ cs) c h.2 s)
-
--- ---- the search between two lemmas
-
-pub record Searching {W : Type 0} (says : W → List Lit → Bool → W → Type 0) (vars : ℕ) (given : List (List Lit)) (limit : Option ℕ) (w u : W) (known : List (List Lit)) (lines : List RupLine) (decisions : List Lit) : Type 0 where
-  pub known_is : known ≡ given ++ clauses_of lines
-  pub all_in_range : all_below vars known ≡ true
-  pub ready : AreReady vars known decisions
-  pub lines_learnt : learnt given lines ≡ true
-  pub heard : Heard says w (clauses_of lines) u
-  pub in_limit : InLimit limit (length lines)
-
-no_limit : (limit : Option ℕ) → InLimit limit 0
-no_limit None = tt
-no_limit (Some n) = omega arith
-
-pub searching_start : {W : Type 0} (says : W → List Lit → Bool → W → Type 0) (vars : ℕ) (given : List (List Lit)) (limit : Option ℕ) (w : W) → all_below vars given ≡ true → Searching says vars given limit w w given [] []
-searching_start {W} says vars given limit w b = record {
-  known_is = sym (append-nil given);
-  all_in_range = b;
-  ready = record { are_set = record { below = refl; apart = refl }; fresh = refl };
-  lines_learnt = refl;
-  heard = refl;
-  in_limit = no_limit limit;
-}
-
-lines_in_range : (vars : ℕ) (lines : List RupLine) → all_below vars (clauses_of lines) ≡ true → lines_below vars lines ≡ true
-lines_in_range vars [] h = refl
-lines_in_range vars (line ∷ lines) h = and_both _ _ (and_left (below vars line.clause) (all_below vars (clauses_of lines)) h) (lines_in_range vars lines (and_right (below vars line.clause) _ h))
-
-few_of : (vars : ℕ) (given : List (List Lit)) (lines : List RupLine) → all_below vars (given ++ clauses_of lines) ≡ true → learnt given lines ≡ true → length lines < 3 ^ vars
-few_of vars given lines b l =
-    lemmas_bound vars given lines (lines_in_range vars lines (and_right (all_below vars given) _ (sym (list_all-append (below vars) given (clauses_of lines)) ∙ b))) l
-
-pub searching_learns : {W : Type 0} (says : W → List Lit → Bool → W → Type 0) (vars : ℕ) (given : List (List Lit)) (limit : Option ℕ) (w u : W) (known : List (List Lit)) (lines : List RupLine) (d : List Lit) → Searching says vars given limit w u known lines d → Learns says vars given w u lines
-searching_learns {W} says vars given limit w u known lines d s = record {
-  learnt = s.lines_learnt;
-  heard = s.heard;
-  few = few_of vars given lines (subst (λ (k : List (List Lit)). all_below vars k ≡ true) s.known_is s.all_in_range) s.lines_learnt;
-}
-
-pub searching_found : {W : Type 0} (says : W → List Lit → Bool → W → Type 0) (vars : ℕ) (given : List (List Lit)) (limit : Option ℕ) (w u : W) (known : List (List Lit)) (lines : List RupLine) (d : List Lit) (values : List Bool) → Searching says vars given limit w u known lines d → IsModel vars known values → IsFound says vars given limit w u values
-searching_found {W} says vars given limit w u known lines d values s m = record {
-  model = record {
-    size = m.size;
-    true_under = and_left (all_true (value_at values) given) _ (sym (list_all-append (clause_true (value_at values)) given (clauses_of lines)) ∙ subst (λ (k : List (List Lit)). all_true (value_at values) k ≡ true) s.known_is m.true_under);
-  };
-  lemmas = lines;
-  learns = searching_learns says vars given limit w u known lines d s;
-  in_limit = s.in_limit;
-}
-
--- at want of memory
-pub searching_cut_off : {W : Type 0} (says : W → List Lit → Bool → W → Type 0) (vars : ℕ) (given : List (List Lit)) (limit : Option ℕ) (w u : W) (known : List (List Lit)) (lines : List RupLine) (d : List Lit) → Searching says vars given limit w u known lines d → IsCutOff says vars given limit w u
-searching_cut_off {W} says vars given limit w u known lines d s = record {
-  lemmas = lines;
-  learns = searching_learns says vars given limit w u known lines d s;
-  in_limit = s.in_limit;
-}
-
-pub searching_refuted : {W : Type 0} (says : W → List Lit → Bool → W → Type 0) (vars : ℕ) (given : List (List Lit)) (limit : Option ℕ) (w u : W) (known : List (List Lit)) (lines : List RupLine) (d : List Lit) (hints : Hints) → Searching says vars given limit w u known lines d → runs_out known [] hints.items ≡ true → IsRefuted says vars given limit w u (lines ++ record { clause = []; hints = hints } ∷ [])
-searching_refuted {W} says vars given limit w u known lines d hints s r = record {
-  lemmas = lines;
-  last = record { clause = []; hints = hints };
-  are = refl;
-  refutes = refutes_push given lines (record { clause = []; hints = hints }) s.lines_learnt (subst (λ (k : List (List Lit)). rup k [] hints.items ≡ true) s.known_is r) refl;
-  learns = searching_learns says vars given limit w u known lines d s;
-  in_limit = s.in_limit;
-}
-
-negated_below : (vars : ℕ) (d : List Lit) → below vars d ≡ true → below vars (negate_all d) ≡ true
-negated_below vars [] h = refl
-negated_below vars (l ∷ ls) h = and_both (nat_lt l.var vars) _ (and_left (nat_lt l.var vars) (below vars ls) h) (negated_below vars ls (and_right (nat_lt l.var vars) _ h))
-
--- the lines after a lemma
-pub record Longer (vars : ℕ) (given known : List (List Lit)) (lines : List RupLine) (c : List Lit) (hints : Hints) : Type 0 where
-  pub all_in_range : all_below vars (known ++ c ∷ []) ≡ true
-  pub known_is : known ++ c ∷ [] ≡ given ++ clauses_of (lines ++ record { clause = c; hints = hints } ∷ [])
-  pub lines_learnt : learnt given (lines ++ record { clause = c; hints = hints } ∷ []) ≡ true
-
-clauses_push : (lines : List RupLine) (line : RupLine) → clauses_of (lines ++ line ∷ []) ≡ clauses_of lines ++ line.clause ∷ []
-clauses_push [] line = refl
-clauses_push (x ∷ xs) line = ap (λ (cs : List (List Lit)). x.clause ∷ cs) (clauses_push xs line)
-
-longer : {W : Type 0} (says : W → List Lit → Bool → W → Type 0) (vars : ℕ) (given : List (List Lit)) (limit : Option ℕ) (w u : W) (known : List (List Lit)) (lines : List RupLine) (e d : List Lit) (l : Lit) (hints : Hints) → Searching says vars given limit w u known lines e → AreReady vars known (d ++ l ∷ []) → runs_out known (d ++ l ∷ []) hints.items ≡ true → Longer vars given known lines (negate_all (d ++ l ∷ [])) hints
-longer {W} says vars given limit w u known lines e d l hints s r o =
-    let c : List Lit = negate_all (d ++ l ∷ []) in
-    let line : RupLine = record { clause = negate_all (d ++ l ∷ []); hints = hints } in
-    let good : (rup known (negate_all (d ++ l ∷ [])) hints.items && is_new known (negate_all (d ++ l ∷ []))) ≡ true = and_both _ _ (lemma_rup vars known (d ++ l ∷ []) hints.items r.are_set o) (lemma_new vars known d l r) in
-    record {
-      all_in_range = list_all-append (below vars) known (c ∷ []) ∙ rw (s.all_in_range, negated_below vars (d ++ l ∷ []) r.are_set.below) refl;
-      known_is = ap (λ (k : List (List Lit)). k ++ c ∷ []) s.known_is ∙ append_assoc given (clauses_of lines) (c ∷ []) ∙ ap (λ (k : List (List Lit)). given ++ k) (sym (clauses_push lines line));
-      lines_learnt = learnt_push given lines line s.lines_learnt (subst (λ (k : List (List Lit)). (rup k (negate_all (d ++ l ∷ [])) hints.items && is_new k (negate_all (d ++ l ∷ []))) ≡ true) s.known_is good);
-    }
-
-pub searching_step : {W : Type 0} (says : W → List Lit → Bool → W → Type 0) (vars : ℕ) (given : List (List Lit)) (limit : Option ℕ) (w m u : W) (known : List (List Lit)) (lines : List RupLine) (e d : List Lit) (l : Lit) (hints : Hints) → Searching says vars given limit w m known lines e → AreReady vars known (d ++ l ∷ []) → runs_out known (d ++ l ∷ []) hints.items ≡ true → says m (negate_all (d ++ l ∷ [])) true u → InLimit limit (length (lines ++ record { clause = negate_all (d ++ l ∷ []); hints = hints } ∷ [])) → Searching says vars given limit w u (known ++ negate_all (d ++ l ∷ []) ∷ []) (lines ++ record { clause = negate_all (d ++ l ∷ []); hints = hints } ∷ []) d
-searching_step {W} says vars given limit w m u known lines e d l hints s r o told within_limit =
-    let more = longer says vars given limit w m known lines e d l hints s r o in
-    record {
-      known_is = more.known_is;
-      all_in_range = more.all_in_range;
-      ready = next_ready vars known d l r;
-      lines_learnt = more.lines_learnt;
-      heard = subst (λ (cs : List (List Lit)). Heard says w cs u) (sym (clauses_push lines (record { clause = negate_all (d ++ l ∷ []); hints = hints }))) (heard_push says w m u (clauses_of lines) (negate_all (d ++ l ∷ [])) s.heard told);
-      in_limit = within_limit;
-    }
-
-limit_next : (limit : Option ℕ) (a b : ℕ) → b ≡ a + 1 → InLimit limit a → MatchOption limit (Unit {0}) (λ most. b ≤ most + 1)
-limit_next None a b e i = tt
-limit_next (Some n) a b e i = omega arith
-
-pub searching_halted : {W : Type 0} (says : W → List Lit → Bool → W → Type 0) (vars : ℕ) (given : List (List Lit)) (limit : Option ℕ) (w m u : W) (known : List (List Lit)) (lines : List RupLine) (e d : List Lit) (l : Lit) (hints : Hints) → Searching says vars given limit w m known lines e → AreReady vars known (d ++ l ∷ []) → runs_out known (d ++ l ∷ []) hints.items ≡ true → says m (negate_all (d ++ l ∷ [])) false u → IsHalted says vars given limit w u (lines ++ record { clause = negate_all (d ++ l ∷ []); hints = hints } ∷ [])
-searching_halted {W} says vars given limit w m u known lines e d l hints s r o told =
-    let more = longer says vars given limit w m known lines e d l hints s r o in
-    record {
-      learnt = more.lines_learnt;
-      heard = subst (λ (cs : List (List Lit)). HeardUntil says w cs u) (sym (clauses_push lines (record { clause = negate_all (d ++ l ∷ []); hints = hints }))) (heard_until_push says w m u (clauses_of lines) (negate_all (d ++ l ∷ [])) s.heard told);
-      few = few_of vars given _ (subst (λ (k : List (List Lit)). all_below vars k ≡ true) more.known_is more.all_in_range) more.lines_learnt;
-      in_limit = limit_next limit (length lines) _ (grind (arith, common_steps)) s.in_limit;
-    }
-
-searching_spent_learns : {W : Type 0} (says : W → List Lit → Bool → W → Type 0) (vars : ℕ) (given : List (List Lit)) (limit : Option ℕ) (w m u : W) (known : List (List Lit)) (lines : List RupLine) (e d : List Lit) (l : Lit) (hints : Hints) → Searching says vars given limit w m known lines e → AreReady vars known (d ++ l ∷ []) → runs_out known (d ++ l ∷ []) hints.items ≡ true → says m (negate_all (d ++ l ∷ [])) true u → Learns says vars given w u (lines ++ record { clause = negate_all (d ++ l ∷ []); hints = hints } ∷ [])
-searching_spent_learns {W} says vars given limit w m u known lines e d l hints s r o told =
-    let more = longer says vars given limit w m known lines e d l hints s r o in
-    record {
-      learnt = more.lines_learnt;
-      heard = subst (λ (cs : List (List Lit)). Heard says w cs u) (sym (clauses_push lines (record { clause = negate_all (d ++ l ∷ []); hints = hints }))) (heard_push says w m u (clauses_of lines) (negate_all (d ++ l ∷ [])) s.heard told);
-      few = few_of vars given _ (subst (λ (k : List (List Lit)). all_below vars k ≡ true) more.known_is more.all_in_range) more.lines_learnt;
-    }
-
-past_spent : (limit : Option ℕ) (a b : ℕ) → b ≡ a + 1 → InLimit limit a → MatchOption limit ⊥ (λ most. most < b) → MatchOption limit ⊥ (λ most. b ≡ most + 1)
-past_spent None a b e i p = p
-past_spent (Some n) a b e i p = omega arith
-
-pub searching_spent : {W : Type 0} (says : W → List Lit → Bool → W → Type 0) (vars : ℕ) (given : List (List Lit)) (limit : Option ℕ) (w m u : W) (known : List (List Lit)) (lines : List RupLine) (e d : List Lit) (l : Lit) (hints : Hints) → Searching says vars given limit w m known lines e → AreReady vars known (d ++ l ∷ []) → runs_out known (d ++ l ∷ []) hints.items ≡ true → says m (negate_all (d ++ l ∷ [])) true u → MatchOption limit ⊥ (λ most. most < length (lines ++ record { clause = negate_all (d ++ l ∷ []); hints = hints } ∷ [])) → IsSpent says vars given limit w u (lines ++ record { clause = negate_all (d ++ l ∷ []); hints = hints } ∷ [])
-searching_spent {W} says vars given limit w m u known lines e d l hints s r o told past = record {
-  learns = searching_spent_learns says vars given limit w m u known lines e d l hints s r o told;
-  past = past_spent limit (length lines) _ (grind (arith, common_steps)) s.in_limit past;
-}
-
-smaller_power : (a b p : ℕ) → b ≡ a + 1 → b < p → p - b < p - a
-smaller_power a b p e h = omega arith
-
-pub searching_smaller : {W : Type 0} (says : W → List Lit → Bool → W → Type 0) (vars : ℕ) (given : List (List Lit)) (limit : Option ℕ) (w m : W) (known : List (List Lit)) (lines : List RupLine) (e d : List Lit) (l : Lit) (hints : Hints) → Searching says vars given limit w m known lines e → AreReady vars known (d ++ l ∷ []) → runs_out known (d ++ l ∷ []) hints.items ≡ true → 3 ^ vars - length (lines ++ record { clause = negate_all (d ++ l ∷ []); hints = hints } ∷ []) < 3 ^ vars - length lines
-searching_smaller {W} says vars given limit w m known lines e d l hints s r o =
-    let more = longer says vars given limit w m known lines e d l hints s r o in
-    let line : RupLine = record { clause = negate_all (d ++ l ∷ []); hints = hints } in
-    let few : length (lines ++ line ∷ []) < 3 ^ vars = few_of vars given _ (subst (λ (k : List (List Lit)). all_below vars k ≡ true) more.known_is more.all_in_range) more.lines_learnt in
-    let more_by_one : length (lines ++ line ∷ []) ≡ length lines + 1 = grind (arith, common_steps) in
-    smaller_power (length lines) _ (3 ^ vars) more_by_one few
-
--- ---- the limit
-
-within_if : (limit : Option ℕ) (b : ℕ) → (MatchOption limit ⊥ (λ most. most < b) → ⊥) → InLimit limit b
-within_if None b h = tt
-within_if (Some n) b h = elim (true_or_false (nat_lt n b)) [ inl less ↦ absurd (h (grind (arith, nat_tests))) | inr more ↦ grind (arith, nat_tests) ]
-
-pub not_past : (limit : Option ℕ) (b len : ℕ) (r : Bool) → len ≡ b → IsTrue r ↔ MatchOption limit ⊥ (λ most. most < len) → r ≡ false → InLimit limit b
-not_past limit b len r e iff f = within_if limit b (λ p. both_ways r (iff.1 (rw e p)) f)
-
-pub line_length : (lines more : List RupLine) (line : RupLine) → more ≡ lines ++ line ∷ [] → length more ≡ length lines + 1
-line_length lines more line e = rw e (grind (arith, common_steps))
-
-pub on_err : {T E P : Type 0} (r : Result T E) → P → OnErr r P
-on_err {T} {E} {P} (Ok x) p = tt
-on_err {T} {E} {P} (Err e) p = p

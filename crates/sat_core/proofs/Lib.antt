@@ -2,6 +2,7 @@ pub mod Lits
 pub mod Codes
 pub mod Decisions
 pub mod Learning
+pub mod Searching
 pub mod Agreeing
 pub mod Slots
 pub mod Visits
@@ -12,4 +13,5 @@ pub mod Boundaries
 pub mod Analyses
 pub mod Appends
 pub mod Jumps
+pub mod Levels
 pub mod Pieces

@@ -110,7 +110,7 @@ get_more {X} (x ∷ xs) ys m (suc i) e = get_more xs ys m i e
 length_slots : (slots : List Slot) (x : ℕ) (s : Slot) → length (slice_set slots x s) ≡ length slots
 length_slots slots x s = grind (arith, common_steps)
 
-unset_is_open : (vars : ℕ) (trail : List Lit) (l : Lit) → AreSet vars trail → l.var < vars → has_var trail l.var ≡ false → AreSet vars (trail ++ l ∷ [])
+pub unset_is_open : (vars : ℕ) (trail : List Lit) (l : Lit) → AreSet vars trail → l.var < vars → has_var trail l.var ≡ false → AreSet vars (trail ++ l ∷ [])
 unset_is_open vars trail l s h n =
     set_push vars trail l s (record { in_range = lt_to l.var vars h; not_true = no_lit trail l n; not_false = no_lit trail (negate l) n })
 

@@ -11,4 +11,6 @@ pub mod Tables
 pub mod Analyzing
 pub mod Appending
 pub mod Jumping
+pub mod Levels
+pub mod Lemmas
 pub mod Solving

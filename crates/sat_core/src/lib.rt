@@ -12,6 +12,7 @@ mod arena;
 mod assigned;
 mod backtrack;
 mod decide;
+mod descend;
 mod learn;
 mod marks;
 mod process;

@@ -98,6 +98,20 @@ impl Watches {
     }
 }
 
+/// What is watched of a clause that has no two literals.
+pub fn no_pair() -> Pair
+    ensures { result ≡ watching.no_pair }
+{
+    let l = Lit {
+        var: 0,
+        positive: true,
+    };
+    Pair {
+        first: l,
+        second: l,
+    }
+}
+
 /// The index of the list of a literal.
 fn index_of(l: Lit) -> usize
     ensures { result ≡ watching.index_of l }
