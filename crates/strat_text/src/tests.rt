@@ -28,6 +28,14 @@ fn outline(strategy: &Strategy) -> (u8, u64) {
     }
 }
 
+/// Whether a strategy with this outline was read.
+fn is_read(found: Result<Strategy, StratError>, wanted: (u8, u64)) -> bool {
+    match found {
+        Ok(strategy) => outline(&strategy) == wanted,
+        Err(_) => false,
+    }
+}
+
 /// A text, the letter of its form and a number.
 const READ: [(&[u8], u8, u64); 46] = [
     (b"skip", b'N', 4),
@@ -105,11 +113,18 @@ const READ: [(&[u8], u8, u64); 46] = [
 #[test]
 fn reads_each_form(rt: HostRuntime) -> Result<(), Fail> {
     let alloc = rt.alloc();
-    for (text, letter, number) in READ {
-        let strategy = read(alloc, text, None)?;
-        assert_eq!(rt; outline(&strategy), (letter, number));
+    for (text, letter, number) in READ.iter() {
+        assert!(rt; is_read(read(alloc, *text, None), (*letter, *number)));
     }
     Ok(())
+}
+
+/// Whether a text is refused for this fault.
+fn is_refused(found: Result<Strategy, StratError>, fault: StratError) -> bool {
+    match found {
+        Ok(_) => false,
+        Err(error) => error == fault,
+    }
 }
 
 /// A text and its first fault, where every name may stand.
@@ -236,66 +251,121 @@ const UNNAMED: [(&[u8], StratError); 7] = [
 #[test]
 fn refuses_at_a_place(rt: HostRuntime) -> Result<(), Fail> {
     let alloc = rt.alloc();
-    for (text, fault) in REFUSED {
-        assert_eq!(rt; read(alloc, text, None).err(), Some(fault));
+    for (text, fault) in REFUSED.iter() {
+        assert!(rt; is_refused(read(alloc, *text, None), *fault));
     }
     let skip = ReducerName::new(alloc, b"skip")?;
     let sat = ReducerName::new(alloc, b"sat")?;
     let names = vec![in alloc; skip, sat]?;
-    for (text, fault) in UNNAMED {
-        assert_eq!(rt;
-            read(alloc, text, Some(names.as_slice())).err(),
-            Some(fault)
-        );
+    for (text, fault) in UNNAMED.iter() {
+        assert!(rt; is_refused(read(alloc, *text, Some(names.as_slice())), *fault));
     }
     let known = read(alloc, b"(then skip sat)", Some(names.as_slice()))?;
     assert_eq!(rt; outline(&known), (b'T', 2));
     Ok(())
 }
 
-/// A text so many times, one between, and another so many times.
-fn around(
-    alloc: Global,
-    left: &[u8],
-    inner: &[u8],
-    right: &[u8],
+/// A text that is repeated on both sides of another, between a front and a back.
+struct Repeated {
+    front: &'static [u8],
+    left: &'static [u8],
+    inner: &'static [u8],
+    right: &'static [u8],
+    back: &'static [u8],
     times: usize,
-) -> Result<Vec<u8>, AllocError> {
-    let mut text = Vec::new(alloc);
+}
+
+/// Puts a text so many times behind another.
+fn repeat(text: &mut Vec<u8>, part: &[u8], times: usize) -> Result<(), AllocError> {
     for _ in 0..times {
-        text.extend_from_slice(left)?;
+        text.extend_from_slice(part)?;
     }
-    text.extend_from_slice(inner)?;
-    for _ in 0..times {
-        text.extend_from_slice(right)?;
-    }
+    Ok(())
+}
+
+/// The bytes of a repeated text.
+fn bytes(alloc: Global, of: &Repeated) -> Result<Vec<u8>, AllocError> {
+    let mut text = Vec::from_slice(alloc, of.front)?;
+    repeat(&mut text, of.left, of.times)?;
+    text.extend_from_slice(of.inner)?;
+    repeat(&mut text, of.right, of.times)?;
+    text.extend_from_slice(of.back)?;
     Ok(text)
 }
+
+/// What a repeated text is read as.
+fn read_repeated(alloc: Global, of: &Repeated) -> Result<(u8, u64), StratError> {
+    let text = bytes(alloc, of)?;
+    let strategy = read(alloc, text.as_slice(), None)?;
+    Ok(outline(&strategy))
+}
+
+/// Texts with many levels or branches, and what they are read as. The fault of the 65th level is told at the second part of the
+/// 64th, since this one stands before the next.
+const REPEATED: [(Repeated, Result<(u8, u64), StratError>); 5] = [
+    (
+        Repeated {
+            front: b"",
+            left: b"(par-then a ",
+            inner: b"b",
+            right: b")",
+            back: b"",
+            times: 63,
+        },
+        Ok((b'Q', 2)),
+    ),
+    (
+        Repeated {
+            front: b"",
+            left: b"(par-then a ",
+            inner: b"b",
+            right: b")",
+            back: b"",
+            times: 64,
+        },
+        Err(StratError::BadStrategy(766)),
+    ),
+    (
+        Repeated {
+            front: b"(fail-if ",
+            left: b"(not ",
+            inner: b"size",
+            right: b")",
+            back: b")",
+            times: 100,
+        },
+        Ok((b'F', 1)),
+    ),
+    (
+        Repeated {
+            front: b"(par-or ",
+            left: b"a ",
+            inner: b"",
+            right: b"",
+            back: b")",
+            times: 64,
+        },
+        Ok((b'P', 64)),
+    ),
+    (
+        Repeated {
+            front: b"(par-or ",
+            left: b"a ",
+            inner: b"",
+            right: b"",
+            back: b")",
+            times: 65,
+        },
+        Err(StratError::BadStrategy(0)),
+    ),
+];
 
 #[test]
 fn counts_levels_and_branches(rt: HostRuntime) -> Result<(), Fail> {
     let alloc = rt.alloc();
-    let deep = around(alloc, b"(par-then a ", b"b", b")", 63)?;
-    assert_eq!(rt; outline(&read(alloc, deep.as_slice(), None)?), (b'Q', 2));
-    let deeper = around(alloc, b"(par-then a ", b"b", b")", 64)?;
-    // the second part of the 64th level, since the first one is refused before it
-    let place = 63 * 12 + 10;
-    let fault = Some(StratError::BadStrategy(place));
-    assert_eq!(rt; read(alloc, deeper.as_slice(), None).err(), fault);
-    let probe = around(alloc, b"(not ", b"size", b")", 100)?;
-    let mut text = Vec::from_slice(alloc, b"(fail-if ")?;
-    text.extend_from_slice(probe.as_slice())?;
-    text.push(b')')?;
-    assert_eq!(rt; outline(&read(alloc, text.as_slice(), None)?), (b'F', 1));
-    let branches = around(alloc, b"a ", b"", b"", 64)?;
-    let mut text = Vec::from_slice(alloc, b"(par-or ")?;
-    text.extend_from_slice(branches.as_slice())?;
-    let mut more = text.clone()?;
-    text.push(b')')?;
-    assert_eq!(rt; outline(&read(alloc, text.as_slice(), None)?), (b'P', 64));
-    more.extend_from_slice(b"a)")?;
-    let fault = Some(StratError::BadStrategy(0));
-    assert_eq!(rt; read(alloc, more.as_slice(), None).err(), fault);
+    for (text, want) in REPEATED.iter() {
+        assert!(rt; read_repeated(alloc, text) == *want);
+    }
     Ok(())
 }
 
@@ -312,15 +382,34 @@ fn spelling(text: &'static [u8]) -> &'static [u8] {
     }
 }
 
+/// The text of a strategy, if it has one.
+fn written(alloc: Global, strategy: &Strategy) -> Result<Vec<u8>, StratError> {
+    if !is_allowed(strategy) {
+        return Err(StratError::BadStrategy(0));
+    }
+    let text = write_strategy(alloc, strategy)?;
+    Ok(text)
+}
+
+/// What a text is written as once it is read.
+fn rewritten(alloc: Global, text: &[u8]) -> Result<Vec<u8>, StratError> {
+    let strategy = read(alloc, text, None)?;
+    written(alloc, &strategy)
+}
+
+/// Whether a text was written.
+fn is_text(found: Result<Vec<u8>, StratError>, wanted: &[u8]) -> bool {
+    match found {
+        Ok(text) => text.as_slice() == wanted,
+        Err(_) => false,
+    }
+}
+
 #[test]
 fn writes_what_is_read(rt: HostRuntime) -> Result<(), Fail> {
     let alloc = rt.alloc();
-    for (text, _, _) in READ {
-        let strategy = read(alloc, text, None)?;
-        let allowed = is_allowed(&strategy);
-        assert!(rt; allowed);
-        let written = write_strategy(alloc, &strategy)?;
-        assert_eq!(rt; written.as_slice(), spelling(text));
+    for (text, _, _) in READ.iter() {
+        assert!(rt; is_text(rewritten(alloc, *text), spelling(*text)));
     }
     Ok(())
 }
