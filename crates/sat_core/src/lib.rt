@@ -1,9 +1,9 @@
 //! A clause solver: clauses in; a model, a refutation or lemmas out, each line of which follows by reverse unit
 //! propagation from its hints.
 //!
-//! The contract for the layer above is that of `Solver::solve`, which runs a plain search so far. Arena, trail, watches, propagation,
-//! analysis and jumping back (`arena`, `trail`, `marks`, `watches`, `visit`, `process`, `analyze`, `backtrack`, `append`) are the proved parts of
-//! the search with two watched literals that is to take its place. The crate stands on `rup`.
+//! The contract for the layer above is that of `Solver::solve`, which runs a plain search so far. `arena`, `trail`, `marks`, `watches`,
+//! `visit`, `process`, `analyze`, `backtrack`, `append` and `descend` are the proved parts of the search with two watched literals that is
+//! to take its place. The crate stands on `rup`.
 #![tactic(auto)]
 
 mod analyze;

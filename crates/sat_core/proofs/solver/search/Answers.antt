@@ -59,7 +59,7 @@ lemmas-preserved g c =
     let within_limit = not_past c.args.limit (length c.keep.new.lines.items) _ _ len_is c.is_past.ensures c.if-is_past.false in
     record {
       searching = rw (c.in_ok-keep-in-Some.ensures.known, c.in_ok-keep-in-Some.ensures.lines, clause_is)
-      (searching_step _ _ _ _ _ _ _ _ _ _ c.in-Stuck.hints c.lemmas.invariant.searching (decisions_lemma _ _ _ _ _ ready runs) told (rw (c.in_ok-keep-in-Some.ensures.lines, clause_is) at within_limit));
+          (searching_step _ _ _ _ _ _ _ _ _ _ c.in-Stuck.hints c.lemmas.invariant.searching (decisions_lemma _ _ _ _ _ ready runs) told (rw (c.in_ok-keep-in-Some.ensures.lines, clause_is) at within_limit));
       ready = rw (c.in_ok-keep-in-Some.ensures.known, clause_is) (next_ready _ _ _ _ ready);
     }
 
