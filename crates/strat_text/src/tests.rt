@@ -128,7 +128,7 @@ fn is_refused(found: Result<Strategy, StratError>, fault: StratError) -> bool {
 }
 
 /// A text and its first fault, where every name may stand.
-const REFUSED: [(&[u8], StratError); 61] = [
+const REFUSED: [(&[u8], StratError); 69] = [
     (b"(then)", StratError::BadStrategy(0)),
     (b"(then a)", StratError::BadStrategy(0)),
     (b"(or-else a)", StratError::BadStrategy(0)),
@@ -193,7 +193,12 @@ const REFUSED: [(&[u8], StratError); 61] = [
         b"(using-params a :lia2pb_max_bits b)",
         StratError::BadStrategy(0),
     ),
+    (b"(par-then)", StratError::BadStrategy(0)),
+    (b"(if)", StratError::BadStrategy(0)),
+    (b"(when)", StratError::BadStrategy(0)),
+    (b"(try-for)", StratError::BadStrategy(0)),
     (b"(try-for a)", StratError::BadStrategy(0)),
+    (b"(try-for a 1 2)", StratError::BadStrategy(0)),
     (
         b"(try-for a 4611686018427387905)",
         StratError::BadStrategy(11),
@@ -216,6 +221,9 @@ const REFUSED: [(&[u8], StratError); 61] = [
     (b"(fail-if :size)", StratError::BadStrategy(9)),
     (b"(fail-if |size|)", StratError::BadStrategy(9)),
     (b"(fail-if (< size))", StratError::BadStrategy(9)),
+    (b"(fail-if (< size 3 4))", StratError::BadStrategy(9)),
+    (b"(fail-if (not))", StratError::BadStrategy(9)),
+    (b"(fail-if (or))", StratError::BadStrategy(9)),
     (b"(fail-if (not size depth))", StratError::BadStrategy(9)),
     (b"(fail-if (and))", StratError::BadStrategy(9)),
     (b"(fail-if (- size))", StratError::BadStrategy(9)),
