@@ -6,7 +6,7 @@ use Rattle.qterm.specs.declared.part.Node.{Node}
 use Rattle.qterm.specs.Tree.{Tree, True, sort_of, IsLawful, HasNameTexts}
 use Rattle.qterm.specs.Kids.{ids}
 use Rattle.qterm.specs.Store.{tree_at, grow, Has, Fits, Shows, Extends, IsDistinct, Adds, stays, grows}
-use Rattle.qterm.specs.Place.{grown, IsSound, IsNamed, AreStored, Stands, IsPlaced, was_there, is_new}
+use Rattle.qterm.specs.Place.{grown, IsAt, IsAbsent, IsSound, IsNamed, AreStored, Stands, IsPlaced, was_there, is_new}
 use Rattle.qterm.proofs.Alls.{All-nil, All-push, All-weaker, All-head, All-tail}
 use Rattle.qterm.proofs.Fitting.{Extends-append, Fits-ids, Fits_extends, grow_extends, grow-injective, grow_lawful, grow_named}
 use Rattle.qterm.proofs.Extending.{Extends_refl}
@@ -99,6 +99,31 @@ grown_named ts (k ∷ ks) a s n =
 pub all_named : (ts : List Tree) (ks : List Node) → grown [] ks ≡ ts → AreStored ks → All HasNameTexts ts
 all_named ts ks e s = subst (All HasNameTexts) e (grown_named [] ks (All-nil HasNameTexts) s.sound s.named)
 
+-- where the node k stands nowhere, no tree is its tree
+pub absent_tree : (ks : List Node) (k : Node) → AreStored ks → Fits (grown [] ks) k.term → k.sort ≡ sort_of (grow (grown [] ks) k.term) → IsAbsent ks k
+    → (j : ℕ) → j < length (grown [] ks) → tree_at (grown [] ks) j ≡ grow (grown [] ks) k.term → ⊥
+absent_tree ks k s f e a j l q =
+    let ts = grown [] ks in
+    let m : length ts ≡ length ks = omega (arith, length_grown [] ks) in
+    let k' = get_or ks j k in
+    let r = stands_in ts ks j k' refl s.sound (get_or_default ks j k k' (omega (arith, m, l))) l in
+    let same_term : k'.term ≡ k.term = grow-injective ts k'.term k.term s.distinct r.fits f (sym r.tree ∙ q) in
+    let same_sort : k'.sort ≡ k.sort = r.sort ∙ ap sort_of (sym r.tree ∙ q) ∙ sym e in
+    let same_node : k' ≡ k = λ x. record { term = same_term x; sort = same_sort x } in
+    a.apart j (omega (arith, m, l)) same_node
+
+-- and so for the list that contracts see
+pub shows_none : (ts : List Tree) (ks : List Node) (k : Node) → grown [] ks ≡ ts → AreStored ks → Fits ts k.term → k.sort ≡ sort_of (grow ts k.term) → IsAbsent ks k → (i : ℕ) → Shows ts i (grow ts k.term) → ⊥
+shows_none ts ks k v s f e a =
+    subst (λ us. Fits us k.term → k.sort ≡ sort_of (grow us k.term) → (i : ℕ) → Shows us i (grow us k.term) → ⊥) v (λ f' e' i h. absent_tree ks k s f' e' a i h.has h.is) f e
+
+-- the number of a node has its tree
+pub shows_at : (ts : List Tree) (ks : List Node) (k : Node) (i : ℕ) → grown [] ks ≡ ts → AreStored ks → IsAt ks k i → Shows ts i (grow ts k.term)
+shows_at ts ks k i v s a =
+    let n : length (grown [] ks) ≡ length ts = ap length v in
+    let l : i < length ts = omega (arith, a.has, n, length_grown [] ks) in
+    record { has = l; is = (stands_in ts ks i k v s.sound (sym a.is) l).tree }
+
 -- what holds of the nodes of a store once the node k stands at the place i
 pub record Interned (old : List Tree) (k : Node) (i : ℕ) (new : List Node) : Type 0 where
   pub stored : AreStored new
@@ -124,13 +149,7 @@ interned ks k i new s f e a (is_new apart at small same) =
     let t = grow ts k.term in
     let m : length ts ≡ length ks = omega (arith, length_grown [] ks) in
     let p : grown [] (ks ++ k ∷ []) ≡ ts ++ t ∷ [] = grown-push [] ks k in
-    let absent : (j : ℕ) → j < length ts → tree_at ts j ≡ t → ⊥ = λ j l q.
-    let k' = get_or ks j k in
-    let r = stands_in ts ks j k' refl s.sound (get_or_default ks j k k' (omega (arith, m, l))) l in
-    let same_term : k'.term ≡ k.term = grow-injective ts k'.term k.term s.distinct r.fits f (sym r.tree ∙ q) in
-    let same_sort : k'.sort ≡ k.sort = r.sort ∙ ap sort_of (sym r.tree ∙ q) ∙ sym e in
-    let same_node : k' ≡ k = λ x. record { term = same_term x; sort = same_sort x } in
-    apart j (omega (arith, m, l)) same_node in
+    let absent = absent_tree ks k s f e (record { apart = apart }) in
     let i' : i ≡ length ts = at ∙ sym m in
     let added : Interned ts k i (ks ++ k ∷ []) = record {
       stored = record {

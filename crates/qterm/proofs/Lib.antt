@@ -1,4 +1,6 @@
 pub mod Alls
+pub mod Members
+pub mod Numbers
 pub mod KidsLaws
 pub mod Fitting
 pub mod Extending

@@ -1,4 +1,5 @@
 pub mod Name
+pub mod Number
 pub mod Tree
 pub mod Store
 pub mod Kids

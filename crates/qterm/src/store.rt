@@ -1,9 +1,9 @@
 //! The store of terms.
-ghost use Rattle.std.specs.Prelude.{◌≡◌, [], ◌∷◌, ◌++◌, ◌<◌, ◌^◌, ℕ, length, ◌↔◌, IsTrue, IfOk, IfSome, OnOk, OnErr, All};
+ghost use Rattle.std.specs.Prelude.{◌≡◌, [], ◌∷◌, ◌++◌, ◌<◌, ◌^◌, ℕ, length, ◌↔◌, IsTrue, IfOk, IfSome, IfNone, MatchOption, OnOk, OnErr, All};
 ghost use Rattle.qterm.specs.Tree.{Tree, sort_of, IsLawful, HasNameTexts};
 ghost use Rattle.qterm.specs.Store.{tree_at, grow, Has, HasSort, Fits, Shows, Extends, Adds, IsDistinct};
 ghost use Rattle.qterm.specs.Kids.{ids};
-ghost use Rattle.qterm.specs.Place.{IsAbsent, IsPlaced, IsNamed, Stands};
+ghost use Rattle.qterm.specs.Place.{IsAt, IsAbsent, IsPlaced, IsNamed, Stands};
 
 use crate::name::Sort;
 use crate::part::{Node, copied, find};
@@ -204,6 +204,19 @@ impl Store {
         }
     }
 
+    /// The id of the term's tree, if the tree is there. The store stays as it is.
+    pub fn find(&self, term: Term) -> Option<TermId>
+        requires fits { Fits self.now term }
+        ensures found { IfSome result (λ id. Shows self.now id (grow self.now term)) }
+        ensures absent { IfNone result ((id : ℕ) → Shows self.now id (grow self.now term) → ⊥) }
+    {
+        let sort = self.sort_over(&term);
+        match place_known(&self.shared, &self.own, &Node { term, sort }) {
+            Some(at) => Some(TermId::new(at)),
+            None => None,
+        }
+    }
+
     /// The id of the term's tree: the old one where the tree is there, and else a new one, which comes last.
     ///
     /// After want of memory the store shows what it showed before. A store that would come to hold 2^32 terms answers want
@@ -219,6 +232,20 @@ impl Store {
         is_named(&term);
         let at = place(&self.shared, &mut self.own, Node { term, sort })?;
         Ok(TermId::new(at))
+    }
+}
+
+/// The place of a node in the shared parts and then the own one.
+fn place_known(shared: &Shared, own: &IndexSet<Node>, node: &Node) -> Option<u32>
+    requires small { length (shared.now ++ own.now.keys) < 2 ^ 32 }
+    ensures { MatchOption result (IsAbsent (shared.now ++ own.now.keys) node.now) (λ at. IsAt (shared.now ++ own.now.keys) node.now at) }
+{
+    match shared.find(node) {
+        Some(at) => Some(at as u32),
+        None => match find(own, node) {
+            Some(at) => Some((shared.len() + at) as u32),
+            None => None,
+        },
     }
 }
 
