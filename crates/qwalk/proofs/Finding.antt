@@ -10,17 +10,17 @@ use Rattle.qterm.specs.Store.{tree_at, trees_of, grow, Has, IsDistinct}
 use Rattle.qterm.specs.Kids.{kids, ids, listed}
 use Rattle.qterm.specs.declared.term.Term.{Term}
 use Rattle.qterm.proofs.KidsLaws.{length-trees_of, get_or-trees_of, listed_kids_grow}
-use Rattle.qwalk.specs.Subterms.{subterms_of, HasSubterms, HasMoreSubterms}
+use Rattle.qwalk.specs.Subterms.{subterms_of, HasMoreSubterms}
 use Rattle.qwalk.specs.Count.{AreApart, HasAll, Takes, IsFound, IsClosed}
 use Rattle.qwalk.specs.Walk.{same_id}
-use Rattle.qwalk.proofs.SubtermsLaws.{subterms_of-itself, subterms_of-child, subterms_of-covered}
+use Rattle.qwalk.proofs.SubtermsLaws.{subterms_of-child}
 
 -- ---- taking one number in
-none_there : (k : ℕ) → Contains [] k → ⊥
+pub none_there : (k : ℕ) → Contains [] k → ⊥
 none_there k h = omega (arith, h.1)
 
 -- a number that the test finds is there, and one that it doesn't is not
-any_there : (ks : List ℕ) (k : ℕ) → list_any (same_id k) ks ≡ true → Contains ks k
+pub any_there : (ks : List ℕ) (k : ℕ) → list_any (same_id k) ks ≡ true → Contains ks k
 any_there [] k h = absurd (true≢false (sym h))
 any_there (x ∷ ks) k h = by (λ q. any_there ks k q) (same_id k x) refl
   where
@@ -36,6 +36,14 @@ any_none (x ∷ ks) k h j l e = by (λ q. any_none ks k q) (same_id k x) refl j 
     by ih true e j l q = true≢false (sym (ap (λ c. c || list_any (same_id k) ks) e) ∙ h)
     by ih false e zero l q = let s : same_id k x ≡ true = search rules in true≢false (sym s ∙ e)
     by ih false e (suc j) l q = ih (sym (ap (λ c. c || list_any (same_id k) ks) e) ∙ h) j (omega (arith, l)) q
+
+-- a number that is there is found
+pub there_any : (ks : List ℕ) (k : ℕ) → Contains ks k → list_any (same_id k) ks ≡ true
+there_any ks k h = by (list_any (same_id k) ks) refl
+  where
+    by : (b : Bool) → list_any (same_id k) ks ≡ b → list_any (same_id k) ks ≡ true
+    by true e = e
+    by false e = absurd (any_none ks k e h.0 h.1 (get_or_default ks h.0 0 k h.1 ∙ h.2))
 
 -- numbers apart stay so where one comes that isn't there
 apart_more : (ks : List ℕ) (k : ℕ) → list_any (same_id k) ks ≡ false → AreApart ks → AreApart (ks ++ k ∷ [])
@@ -128,17 +136,17 @@ pub HasAll-none : (more now : List ℕ) → HasAll (take 0 more) now
 HasAll-none more now = record { all = λ x h. absurd (none_there x h) }
 
 -- ---- the trees of numbers
-Contains-trees_of : (ts : List Tree) (ks : List ℕ) (k : ℕ) → Contains ks k → Contains (trees_of ts ks) (tree_at ts k)
+pub Contains-trees_of : (ts : List Tree) (ks : List ℕ) (k : ℕ) → Contains ks k → Contains (trees_of ts ks) (tree_at ts k)
 Contains-trees_of ts ks k h =
     let l : h.0 < length (trees_of ts ks) = omega (arith, h.1, length-trees_of ts ks) in
     (h.0, l, get_or-trees_of ts ks h.0 (tree_at ts k) h.1 ∙ ap (tree_at ts) (get_or_default ks h.0 0 k h.1 ∙ h.2))
 
-trees_of-Contains : (ts : List Tree) (ks : List ℕ) (s : Tree) → Contains (trees_of ts ks) s → (k : ℕ) × Contains ks k × (tree_at ts k ≡ s)
+pub trees_of-Contains : (ts : List Tree) (ks : List ℕ) (s : Tree) → Contains (trees_of ts ks) s → (k : ℕ) × Contains ks k × (tree_at ts k ≡ s)
 trees_of-Contains ts ks s h =
     let l : h.0 < length ks = omega (arith, h.1, length-trees_of ts ks) in
     (get_or ks h.0 0, Contains-get_or ks h.0 0 l, sym (get_or-trees_of ts ks h.0 s l) ∙ h.2)
 
-IsDistinct-trees_of : (ts : List Tree) (ks : List ℕ) → IsDistinct ts → ((k : ℕ) → Contains ks k → Has ts k) → AreApart ks → IsDistinct (trees_of ts ks)
+pub IsDistinct-trees_of : (ts : List Tree) (ks : List ℕ) → IsDistinct ts → ((k : ℕ) → Contains ks k → Has ts k) → AreApart ks → IsDistinct (trees_of ts ks)
 IsDistinct-trees_of ts ks d has a i j p q e =
     let n = length-trees_of ts ks in
     let p' : i < length ks = omega (arith, n, p) in
@@ -147,23 +155,10 @@ IsDistinct-trees_of ts ks d has a i j p q e =
 
 -- ---- the steps of the search
 -- what was there stays
-Takes-Contains : (old more new : List ℕ) (k : ℕ) → Takes old more new → Contains old k → Contains new k
+pub Takes-Contains : (old more new : List ℕ) (k : ℕ) → Takes old more new → Contains old k → Contains new k
 Takes-Contains old more new k t h =
     let l : h.0 < length new = omega (arith, h.1, t.longer) in
     (h.0, l, get_or_default new h.0 k 0 l ∙ t.same h.0 h.1 ∙ get_or_default old h.0 0 k h.1 ∙ h.2)
-
-pub HasAll-stays : (roots old more new : List ℕ) → HasAll roots old → Takes old more new → HasAll roots new
-HasAll-stays roots old more new r t = record { all = λ k h. Takes-Contains old more new k t (r.all k h) }
-
--- the terms whose subterms are counted are found
-pub IsFound-roots : (ts : List Tree) (roots old ks : List ℕ) → All (Has ts) roots → old ≡ [] → Takes old roots ks → IsFound ts roots ks
-IsFound-roots ts roots old ks has e t' =
-    let t : Takes [] roots ks = subst (λ us. Takes us roots ks) e t' in
-    record {
-      has = λ k h. elim (t.only k h) [ inl a ↦ absurd (none_there k a) | inr b ↦ All-contains (Has ts) roots k has b ];
-      within = λ k h. elim (t.only k h) [ inl a ↦ absurd (none_there k a) | inr b ↦ subterms_of-itself (trees_of ts roots) (tree_at ts k) (Contains-trees_of ts roots k b) ];
-      apart = t.apart (record { apart = λ i j p q e. absurd (omega (arith, p)) });
-    }
 
 -- what is found is there
 pub IsFound-has : (ts : List Tree) (roots ks : List ℕ) (n i : ℕ) → IsFound ts roots ks → n < length ks → i ≡ get_or ks n i → Has ts i
@@ -208,22 +203,6 @@ IsClosed-next ts ks new n i term c l a e t all = record { closed = λ j p s h. b
         moved s (ids term) all.all (subst (λ us. Contains us s) (kids_are ts i term e) m)
 
 -- ---- the end of the search
-pub HasSubterms-found : (ts : List Tree) (roots ks : List ℕ) (n : ℕ) → IsDistinct ts → IsFound ts roots ks → HasAll roots ks → IsClosed ts ks n → length ks ≤ n → (count : ℕ) → count ≡ length ks → HasSubterms (trees_of ts roots) count
-HasSubterms-found ts roots ks n d found r c l count e = record {
-  all = trees_of ts ks;
-  different = IsDistinct-trees_of ts ks d found.has found.apart;
-  within = λ s h. let q = trees_of-Contains ts ks s h in subst (Contains (subterms_of (trees_of ts roots))) q.2 (found.within q.0 q.1);
-  complete = subterms_of-covered (trees_of ts ks) below (trees_of ts roots) (λ u h. let q = trees_of-Contains ts roots u h in subst (Contains (trees_of ts ks)) q.2 (Contains-trees_of ts ks q.0 (r.all q.0 q.1)));
-  count = length-trees_of ts ks ∙ sym e;
-}
-  where
-    below : (t s : Tree) → Contains (trees_of ts ks) t → Contains (listed (kids t)) s → Contains (trees_of ts ks) s
-    below t s h k =
-        let q = trees_of-Contains ts ks t h in
-        let at : get_or ks q.1.0 0 ≡ q.0 = get_or_default ks q.1.0 0 q.0 q.1.1 ∙ q.1.2 in
-        let same : tree_at ts (get_or ks q.1.0 0) ≡ t = ap (tree_at ts) at ∙ q.2 in
-        c.closed q.1.0 (omega (arith, q.1.1, l)) s (subst (λ x. Contains (listed (kids x)) s) (sym same) k)
-
 pub HasMoreSubterms-found : (ts : List Tree) (roots ks : List ℕ) (n : ℕ) → IsDistinct ts → IsFound ts roots ks → n < length ks → HasMoreSubterms (trees_of ts roots) n
 HasMoreSubterms-found ts roots ks n d found l = record {
   some = trees_of ts ks;
