@@ -1,2 +1,4 @@
 pub mod Valuations
 pub mod Steps
+pub mod Tightest
+pub mod Within

@@ -9,7 +9,8 @@ use Rattle.qeval.specs.declared.model.Value.{Value}
 use Rattle.qeval.specs.declared.model.Value.TheVariants.{Bool, Int}
 use Rattle.qeval.specs.declared.error.EvalError.{EvalError}
 use Rattle.qeval.specs.declared.error.EvalError.TheVariants.{Wide, Memory}
-use Rattle.qeval.specs.Value.{Valuation, value_of, is_wide, fits, int_of, bool_of}
+use Rattle.qterm.specs.Number.{fits}
+use Rattle.qeval.specs.Value.{Valuation, value_of, is_wide, int_of, bool_of}
 
 -- a number and the numbers of a list, added
 abbrev pub sum_of : ℤ → List Value → ℤ

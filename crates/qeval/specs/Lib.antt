@@ -1,3 +1,4 @@
 pub mod Value
 pub mod Eval
 pub mod Node
+pub mod Bounds

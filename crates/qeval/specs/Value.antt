@@ -1,7 +1,8 @@
 -- The values of terms, and valuations: what each name has as its value.
-use Rattle.std.specs.Prelude.{◌≡◌, ℤ, pos, negsuc, List, [], ◌∷◌, map, Bool as Truth, false, not, nat_lt, unwrap_or}
+use Rattle.std.specs.Prelude.{◌≡◌, ℤ, pos, List, [], ◌∷◌, map, Bool as Truth, false, not, unwrap_or}
 use Rattle.std.specs.Map.{lookup, remove_entry}
 use Rattle.indexmap.specs.IndexMap.{insert_entry}
+pub use Rattle.qterm.specs.Number.{fits}
 use Rattle.qterm.specs.declared.name.Name.{Name}
 use Rattle.qterm.specs.declared.name.Sort.{Sort}
 use Rattle.qterm.specs.declared.name.Sort.TheVariants as sort
@@ -50,11 +51,6 @@ names V = map (λ e. e.0) V
 
 abbrev pub values : Valuation → List Value
 values V = map (λ e. e.1) V
-
--- whether a number is one of 128 bits, with its sign
-abbrev pub fits : ℤ → Truth
-fits (pos n) = nat_lt n 170141183460469231731687303715884105728
-fits (negsuc n) = nat_lt n 170141183460469231731687303715884105728
 
 -- whether a value is a number outside 128 bits
 abbrev pub is_wide : Value → Truth
