@@ -5,11 +5,12 @@ ghost use Rattle.qterm.specs.declared.name.Sort.TheVariants.{Int};
 ghost use Rattle.qterm.specs.Tree.{Tree};
 ghost use Rattle.qlin.specs.Number.{in_range};
 ghost use Rattle.qlin.specs.Form.{plus, times, parts_in_range};
-ghost use Rattle.qlin.specs.Lin.{form_at, IsForm, IsFormIfFits, IsTightened, AreNonzero};
+ghost use Rattle.qlin.specs.Lin.{form_at, parts_fit, IsForm, IsFormIfFits, IsTightened, AreNonzero};
+ghost use Rattle.qterm.specs.Number.{fits};
 ghost use Rattle.qlin.specs.Merge.{IsQuotient};
 
-use crate::merge::{are_in_range, content, divided_parts, merged, scaled_parts};
-use crate::number::{floor, in_range, negated, product, sum};
+use crate::merge::{are_in_range, content, divided_parts, merged, parts_fit, scaled_parts};
+use crate::number::{floor, in_range, negated, number_fits, product, sum};
 use qterm::{Store, TermId};
 use std::alloc::{AllocError, Global};
 use std::marker::Model;
@@ -88,6 +89,36 @@ impl Lin {
         }
     }
 
+    /// The form with these parts and this constant, whose numbers have 128 bits.
+    fn narrow(items: Vec<(i128, TermId)>, constant: i128) -> Lin
+        ensures parts { result.parts ≡ items.items }
+        ensures constant { result.constant ≡ constant }
+        ensures fits { (parts_fit result.parts && fits result.constant) ≡ true }
+    {
+        let form = Lin::from_parts(items, constant);
+        form.numbers_fit();
+        form
+    }
+
+    /// All numbers of a form have 128 bits.
+    pub fn numbers_fit(&self)
+        ensures { (parts_fit self.now.parts && fits self.now.constant) ≡ true }
+    {
+        parts_fit(self.parts());
+        number_fits(self.constant());
+    }
+
+    /// The same form.
+    pub fn copy(&self, alloc: Global) -> Result<Lin, AllocError>
+        ensures { IfOk result (λ l. l ≡ self.now) }
+    {
+        let items = Vec::from_slice(alloc, self.parts.items.as_slice())?;
+        Ok(Lin {
+            parts: LinParts { items },
+            constant: self.constant,
+        })
+    }
+
     /// The numbers and their monomials, in order.
     pub fn parts(&self) -> &[(i128, TermId)]
         ensures { result.now ≡ self.now.parts }
@@ -110,10 +141,7 @@ impl Lin {
     {
         match merged(alloc, store, self.parts(), other.parts()) {
             Ok(items) => match sum(self.constant, other.constant) {
-                Some(constant) => Ok(Lin {
-                    parts: LinParts { items },
-                    constant,
-                }),
+                Some(constant) => Ok(Lin::narrow(items, constant)),
                 None => Err(LinError::Wide),
             },
             Err(error) => Err(error),
@@ -126,10 +154,7 @@ impl Lin {
     {
         match scaled_parts(alloc, self.parts(), by) {
             Ok(items) => match product(by, self.constant) {
-                Some(constant) => Ok(Lin {
-                    parts: LinParts { items },
-                    constant,
-                }),
+                Some(constant) => Ok(Lin::narrow(items, constant)),
                 None => Err(LinError::Wide),
             },
             Err(error) => Err(error),
