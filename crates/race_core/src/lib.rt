@@ -6,8 +6,6 @@
 mod law;
 mod machine;
 mod step;
-#[cfg(test)]
-mod tests;
 
 pub use law::{chains_follow_parents, collected_races_are_settled};
 pub use machine::{BranchState, Branches, Place, Race, RaceKind, RaceList, RaceState, RaceStep};

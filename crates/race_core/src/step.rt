@@ -1,5 +1,5 @@
 // One step of the machine, and lists of steps.
-ghost use Rattle.std.specs.Prelude.{◌≡◌, ◌+◌, ◌<◌, ◌^◌, length, IfOk};
+ghost use Rattle.std.specs.Prelude.{◌≡◌, ◌+◌, ◌<◌, ◌^◌, length, IfOk, IfSome};
 ghost use Rattle.race_core.specs.Machine.{race_at, may_act, chain_branch, parent_of, word_of, branch_of, is_at, seen, polled, with_races, taken};
 ghost use Rattle.race_core.specs.Machine.{begin as begins, poll as polls, win as wins, fail as fails, draw as draws, collect as collects, step as steps, run as runs};
 ghost use Rattle.race_core.specs.Lawful.{IsLawful};
@@ -17,8 +17,10 @@ pub fn apply_step(
 ) -> Result<Option<RaceState>, AllocError>
     requires races { IsLawful state.now.races }
     requires lemmas { state.now.lemmas + 1 < 2 ^ 64 }
-    ensures { IfOk result (λ after. after ≡ steps state.now step.now) }
+    ensures steps { IfOk result (λ after. after ≡ steps state.now step.now) }
+    ensures lawful { IfOk result (λ after. IfSome after (λ next. IsLawful next.races)) }
 {
+    let _branches = step.branch;
     let mut next = state.copy(alloc)?;
     let is_taken = take_step(alloc, &mut next, step)?;
     if is_taken { Ok(Some(next)) } else { Ok(None) }

@@ -199,6 +199,7 @@ module _ (terms : Terms) (s : Table) (h : Holds terms s) (id k b : ℕ) (v : Vie
         lemmas = total_same (λ u. u.draws) s.views id v W at refl ∙ (h.lemmas ∙ sym e1);
         lemmas_most = omega arith;
         drawn = λ q some_of. let z = size_stays q in let x = h.drawn q (omega arith) in (x.0, x.1, omega arith);
+        sized = λ q low high was. let z = size_stays q in let x = h.sized q low high (omega arith) in omega arith;
         small = λ q. let z = size_stays q in let x = h.small q in omega arith;
         parts = parts_all;
         in_range = λ q. dite (ℕ_discrete q (suc k))

@@ -44,8 +44,8 @@ module _ (terms : Terms) (s : Table) (h : Holds terms s) (id : ℕ) (v w : View)
   pub calm : length us ≡ 4097 → ((r : ℕ) → word_of us r ≡ word_of s.words r) → w.parts ≡ v.parts → w.workers ≡ v.workers
       → slice_index us 0 + v.races ≡ slice_index s.words 0 + w.races → slice_index us 0 ≤ 4095 + total (λ u. when u.refused u.workers) Vs
       → slice_index us 1 + v.draws ≡ slice_index s.words 1 + w.draws → slice_index us 1 ≤ terms.pool + total (λ u. when (is_some u.end) u.workers) Vs
-      → slice_index s.words 0 ≤ slice_index us 0 → slice_index s.words 1 ≤ slice_index us 1 → Knows terms.pool us w → Holds terms (next s us id w)
-  calm long words parts workers races races_most lemmas lemmas_most more0 more1 know = record {
+      → slice_index s.words 0 ≤ slice_index us 0 → ((r : ℕ) → r ≤ 4095 → r ≤ slice_index us 0 → r ≤ slice_index s.words 0) → slice_index s.words 1 ≤ slice_index us 1 → Knows terms.pool us w → Holds terms (next s us id w)
+  calm long words parts workers races races_most lemmas lemmas_most more0 none_new more1 know = record {
     fits = h.fits;
     long = long;
     shared_out = total_same (λ u. u.workers) s.views id v w at workers ∙ h.shared_out;
@@ -54,6 +54,7 @@ module _ (terms : Terms) (s : Table) (h : Holds terms s) (id : ℕ) (v w : View)
     lemmas = sum_moves (λ u. u.draws) (slice_index s.words 1) (slice_index us 1) h.lemmas lemmas;
     lemmas_most = lemmas_most;
     drawn = λ r some_of. let e = size_same parts r in let d = h.drawn r (omega arith) in (d.0, d.1, omega arith);
+    sized = λ r some few was. let e = size_same parts r in let d = h.sized r some few (none_new r few was) in omega arith;
     small = λ r. let e = size_same parts r in let d = h.small r in omega arith;
     parts = λ t. total_same (λ u. count t u.parts) s.views id v w at (ap (count t) parts) ∙ (h.parts t ∙ (λ i. owed (sym (size_same parts t.race) i) (sym (words t.race) i) t));
     in_range = λ r. let a = size_same parts r in let b = words r in let c = h.in_range r in omega arith;
@@ -80,7 +81,7 @@ pub looks : (terms : Terms) (s : Table) (h : Holds terms s) (id r : ℕ) (v w : 
     → w.top ≡ v.top → w.end ≡ v.end → w.refused ≡ v.refused → w.races ≡ v.races → w.draws ≡ v.draws → Holds terms (next s s.words id w)
 looks terms s h id r v w at seen parts workers pool top end refused races draws =
     let a = refused_same terms s h id v w at s.words refused workers in let b = ended_same terms s h id v w at s.words end workers in let c = h.races_most in let d = h.lemmas_most in
-    calm terms s h id v w at s.words h.long (λ r. refl) parts workers (omega arith) (omega arith) (omega arith) (omega arith) (omega arith) (omega arith) (noted_more terms.pool r s.words v w seen workers pool top end races draws (h.knows id v at))
+    calm terms s h id v w at s.words h.long (λ r. refl) parts workers (omega arith) (omega arith) (omega arith) (omega arith) (omega arith) (λ q low was. was) (omega arith) (noted_more terms.pool r s.words v w seen workers pool top end races draws (h.knows id v at))
 
 pub polls : (terms : Terms) (s : Table) (h : Holds terms s) (id r : ℕ) (v : View) (at : get_elem? s.views id ≡ some v) → Holds terms (next s s.words id (after_poll r (word_of s.words r) v))
 polls terms s h id r v at = looks terms s h id r v (after_poll r (word_of s.words r) v) at refl refl refl refl refl refl refl refl refl
@@ -111,7 +112,7 @@ module _ (terms : Terms) (s : Table) (h : Holds terms s) (id n : ℕ) (v : View)
       let k : Knows terms.pool s.words v = h.knows id v at in
       let m : slice_index s.words 0 + 1 ≤ 4095 + total (λ u. when u.refused u.workers) (set s.views id w) = mark_adds (λ u. when u.refused u.workers) s.views id v w at pos refl (ap (λ b. when b v.workers) unmarked) (slice_index s.words 0) 4095 h.races_most in
       let e = ended_same terms s h id v w at us refl refl in let d = h.lemmas_most in
-      calm terms s h id v w at us (length-set s.words 0 (slice_index s.words 0 + 1) ∙ h.long) words refl refl (omega arith) (omega arith) (omega arith) (omega arith) (omega arith) (omega arith)
+      calm terms s h id v w at us (length-set s.words 0 (slice_index s.words 0 + 1) ∙ h.long) words refl refl (omega arith) (omega arith) (omega arith) (omega arith) (omega arith) (λ r low was. omega arith) (omega arith)
       (record { same_pool = k.same_pool; idle = λ z. absurd (omega arith); below = (let b = k.below in omega arith); ended = k.ended; noted = λ q x is. words q ∙ k.noted q x is })
 
   abbrev Grown : View
@@ -148,8 +149,8 @@ module _ (terms : Terms) (s : Table) (h : Holds terms s) (id n : ℕ) (v : View)
       let goal : owed (size_of Gs t.race) (word_of s.words t.race) t ≡ owed (size_of s.views t.race) (word_of s.words t.race) t = ap (λ z. owed z (word_of s.words t.race) t) size in
       let g = count_grows t in let old = h.parts t in omega arith
 
-  grows : n ≤ 65536 → slice_index s.words 0 < 4095 → Holds terms (next s (raised s 0) id Grown)
-  grows fit few =
+  grows : 1 ≤ n → n ≤ 65536 → slice_index s.words 0 < 4095 → Holds terms (next s (raised s 0) id Grown)
+  grows least fit few =
       let us : List ℕ = raised s 0 in
       let c : (slice_index us 0 ≡ slice_index s.words 0 + 1) × (slice_index us 1 ≡ slice_index s.words 1) = race_count s.words (slice_index s.words 0 + 1) h.long in
       let words : (r : ℕ) → word_of us r ≡ word_of s.words r = λ r. word_else s.words 0 (slice_index s.words 0 + 1) r (omega arith) in
@@ -165,6 +166,9 @@ module _ (terms : Terms) (s : Table) (h : Holds terms s) (id n : ℕ) (v : View)
         lemmas_most = omega arith;
         drawn = λ r some_of. dite (ℕ_discrete r (slice_index s.words 0 + 1)) (λ is. (omega arith, omega arith, omega arith))
             (λ ne. let f : eqb r (slice_index s.words 0 + 1) ≡ false = ne_eqb r (slice_index s.words 0 + 1) ne in let g : size_of Gs r ≡ size_of s.views r + 0 = size_grows r ∙ ap (λ b. size_of s.views r + cond b n 0) f in let x = h.drawn r (omega arith) in (x.0, x.1, omega arith));
+        sized = λ r low_end high_end was. dite (ℕ_discrete r (slice_index s.words 0 + 1))
+            (λ is. let e : eqb r (slice_index s.words 0 + 1) ≡ true = eq-eqb r (slice_index s.words 0 + 1) is in let g : size_of Gs r ≡ size_of s.views r + n = size_grows r ∙ ap (λ b. size_of s.views r + cond b n 0) e in omega arith)
+            (λ ne. let a = size_grows r in let x = h.sized r low_end high_end (omega arith) in omega arith);
         small = λ r. dite (ℕ_discrete r (slice_index s.words 0 + 1))
             (λ is. let a = ap (λ q. size_of Gs q) is ∙ size_grows (slice_index s.words 0 + 1) in let b = size_new in let e : eqb (slice_index s.words 0 + 1) (slice_index s.words 0 + 1) ≡ true = eq-eqb (slice_index s.words 0 + 1) (slice_index s.words 0 + 1) refl in
             let g : size_of Gs r ≡ size_of s.views (slice_index s.words 0 + 1) + n = a ∙ ap (λ t. size_of s.views (slice_index s.words 0 + 1) + cond t n 0) e in omega arith)
@@ -175,11 +179,11 @@ module _ (terms : Terms) (s : Table) (h : Holds terms s) (id n : ℕ) (v : View)
             (record { same_pool = k.same_pool; idle = λ z. absurd (omega arith); below = (let b = k.below in omega arith); ended = k.ended; noted = λ q x is. words q ∙ k.noted q x is });
       }
 
-  pub opens : n ≤ 65536 → v.refused ≡ false → Holds terms (next s (raised s 0) id (after_open n (slice_index s.words 0) v))
-  opens fit unmarked = by (ltb (slice_index s.words 0) 4095) refl
+  pub opens : 1 ≤ n → n ≤ 65536 → v.refused ≡ false → Holds terms (next s (raised s 0) id (after_open n (slice_index s.words 0) v))
+  opens least fit unmarked = by (ltb (slice_index s.words 0) 4095) refl
     where
       by : (b : Bool) → ltb (slice_index s.words 0) 4095 ≡ b → Holds terms (next s (raised s 0) id (cond b Grown (record v { races = v.races + 1; refused = true })))
-      by true e = grows fit (ltb-true _ _ e)
+      by true e = grows least fit (ltb-true _ _ e)
       by false e = refuses unmarked (ltb-false _ _ e)
 
 -- A lemma is drawn
@@ -193,7 +197,7 @@ draws terms s h id v at pos unmarked =
     let f : View → ℕ = λ u. when (is_some u.end) u.workers in
     let both : (n + 1 ≤ terms.pool + total f (set s.views id w)) × Ended terms.pool (n + 1) w.end = by (ltb n v.pool) refl in
     let l : n + 1 ≤ terms.pool + total f (set s.views id w) = both.0 in
-    calm terms s h id v w at us (length-set s.words 1 (n + 1) ∙ h.long) words refl refl (omega arith) (omega arith) (omega arith) (omega arith) (omega arith) (omega arith)
+    calm terms s h id v w at us (length-set s.words 1 (n + 1) ∙ h.long) words refl refl (omega arith) (omega arith) (omega arith) (omega arith) (omega arith) (λ r low was. omega arith) (omega arith)
     (record { same_pool = k.same_pool; idle = λ z. absurd (omega arith); below = omega arith; ended = both.1; noted = λ q x is. words q ∙ k.noted q x is })
   where
     by : (b : Bool) → ltb (slice_index s.words 1) v.pool ≡ b → (slice_index s.words 1 + 1 ≤ terms.pool + total (λ u. when (is_some u.end) u.workers) (set s.views id (record v { draws = v.draws + 1; top = slice_index s.words 1 + 1; end = cond b v.end (Some (slice_index s.words 1)) })))

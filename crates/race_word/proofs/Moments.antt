@@ -25,6 +25,7 @@ first_holds terms s f = let k = begins terms s.words f.workers f.pool f.long f.w
       lemmas = k.lemmas;
       lemmas_most = k.lemmas_most;
       drawn = k.drawn;
+      sized = k.sized;
       small = k.small;
       parts = k.parts;
       in_range = k.in_range;

@@ -34,6 +34,7 @@ settle terms s h vs workers races draws refused ended sizes counts knows = recor
   lemmas = draws ∙ h.lemmas;
   lemmas_most = (let a = h.lemmas_most in omega arith);
   drawn = λ r p. let e = sizes r in h.drawn r (omega arith);
+  sized = λ r low high was. let e = sizes r in let a = h.sized r low high was in omega arith;
   small = λ r. let e = sizes r in let a = h.small r in omega arith;
   parts = λ t. counts t ∙ (h.parts t ∙ ap (λ z. owed z (word_of s.words t.race) t) (sym (sizes t.race)));
   in_range = λ r. let e = sizes r in let a = h.in_range r in omega arith;
@@ -144,6 +145,7 @@ begins terms ws few small long none = record {
   lemmas = sym (none 1);
   lemmas_most = (let e = none 1 in omega arith);
   drawn = λ r p. absurd (let q : 0 < 0 = p in omega arith);
+  sized = λ r low high was. absurd (let e = none 0 in omega arith);
   small = λ r. omega arith;
   parts = λ t. sym (owed_none (word_of ws t.race) t);
   in_range = λ r. let e = no_word r in omega arith;

@@ -86,6 +86,7 @@ module _ (terms : Terms) (s : Table) (h : Holds terms s) where
     draws_most = h.lemmas_most;
     ended = λ id v t at is. subst (λ o. Ended terms.pool v.top o) is (h.knows id v at).ended;
     top = λ id v at. (h.knows id v at).below;
+    drawn = λ r some low. h.sized r some (omega arith) (omega arith);
     branches = in_one;
     only = λ id v r n b at has. only_these id v r n b at has;
     word = h.in_range;

@@ -129,8 +129,10 @@ polled_keeps old new a same p = let v = polls_rest old.chain old.view a new.view
   table = same.0;
   chain = same.1;
   workers = ap (λ (z : View). z.workers) v;
+  pool = ap (λ (z : View). z.pool) v;
   parts = λ t. ap (λ (z : View). count t z.parts) v;
   seen = polls_keep old.chain old.view a new.view p;
+  ended = λ t e. ap (λ (z : View). z.end) v ∙ e;
   top = (let e : new.view.top ≡ old.view.top = ap (λ (z : View). z.top) v in omega arith);
 }
 

@@ -1,5 +1,6 @@
 -- A race that is opened, run in parts and taken back leaves a racer that has all it had.
 use Rattle.std.proofs.Common.{◌≡◌, ◌⊎◌, ℕ, ◌+◌, ◌-◌, ◌<◌, ◌≤◌, Bool, true, false, cond, eqb, List, [], ◌∷◌, ◌++◌, Some, refl, sym, ap, subst, ◌∙◌, inl, inr, arith, eq-eqb, ne_eqb}
+use Rattle.std.specs.Option.{option_or}
 use Rattle.std.proofs.lemmas.Bool.{cases_eq, lt-ltb}
 use Rattle.race_word.specs.declared.view.Held.{Held}
 use Rattle.race_word.specs.declared.view.View.{View}
@@ -14,30 +15,34 @@ use Rattle.race_word.proofs.Crowns.{count-crown_won, count-crown_lost, count-cro
 use Rattle.race_word.proofs.Having.{drawn_is, together_seen}
 
 pub raced_refl : (race : ℕ) (N : Type 0) (r : Runner) → Raced race N r r
-raced_refl race N r = record { table = refl; chain = refl; workers = refl; parts = λ t f. omega arith; has = λ n b. omega arith; seen = λ q w h. h; top = omega arith }
+raced_refl race N r = record { table = refl; chain = refl; workers = refl; pool = refl; parts = λ t f. omega arith; has = λ n b. omega arith; seen = λ q w h. h; ended = λ t e. e; top = omega arith }
 
 pub raced_then : (race : ℕ) (M N : Type 0) {a b c : Runner} → Raced race M a b → Raced race N b c → Raced race (M × N) a c
 raced_then race M N h k = record {
   table = k.table ∙ h.table;
   chain = k.chain ∙ h.chain;
   workers = k.workers ∙ h.workers;
+  pool = k.pool ∙ h.pool;
   parts = λ t f. let x = h.parts t (λ e. (f e).0) in let y = k.parts t (λ e. (f e).1) in omega arith;
   has = λ n b. let x = h.has n b in let y = k.has n b in omega arith;
   seen = λ q w n. k.seen q w (h.seen q w n);
+  ended = λ t e. k.ended t (h.ended t e);
   top = (let x = h.top in let y = k.top in omega arith);
 }
 
 pub raced_less : (race : ℕ) (M N : Type 0) {a b : Runner} → (N → M) → Raced race M a b → Raced race N a b
-raced_less race M N g h = record { table = h.table; chain = h.chain; workers = h.workers; parts = λ t f. h.parts t (λ e. g (f e)); has = h.has; seen = h.seen; top = h.top }
+raced_less race M N g h = record { table = h.table; chain = h.chain; workers = h.workers; pool = h.pool; parts = λ t f. h.parts t (λ e. g (f e)); has = h.has; seen = h.seen; ended = h.ended; top = h.top }
 
 pub grows_raced : (race : ℕ) (N : Type 0) {a b : Runner} → Grows a b → Raced race N a b
 grows_raced race N k = record {
   table = k.table;
   chain = k.chain;
   workers = k.workers;
+  pool = k.pool;
   parts = λ t f. k.parts t;
   has = λ n b. let x = k.parts (held race n b false) in let y = k.parts (held race n b true) in omega arith;
   seen = k.seen;
+  ended = k.ended;
   top = k.top;
 }
 
@@ -65,9 +70,11 @@ won_raced race b old new is = subst (λ (z : Runner). Raced race ⊥ old z) (sym
   table = refl;
   chain = refl;
   workers = refl;
+  pool = refl;
   parts = λ t f. (let x = count-crown_else race b t old.view.parts (ap (λ x. cond x (eqb b t.branch) false) (ne_eqb race t.race (λ e. f (sym e)))) in omega arith);
   has = λ n c. crowned_has race b n c old.view.parts;
   seen = λ q k h. record { noted = h.noted };
+  ended = λ t e. e;
   top = omega arith;
 })
 
@@ -78,10 +85,12 @@ halves race mid m Nl Nr N old l0 l1 r0 r1 new both less stays goes l r is = subs
   table = l.table ∙ ap (λ (z : Runner). z.table) stays;
   chain = l.chain ∙ ap (λ (z : Runner). z.chain) stays;
   workers = (let x = l.workers in let y = r.workers in let a : l0.view.workers ≡ old.view.workers - m = ap (λ (z : Runner). z.view.workers) stays in let b : r0.view.workers ≡ m = ap (λ (z : Runner). z.view.workers) goes in omega arith);
+  pool = l.pool ∙ ap (λ (z : Runner). z.view.pool) stays;
   parts = λ t f. (let x = l.parts t (λ e. (both (f e)).0) in let y = r.parts t (λ e. (both (f e)).1) in let z = cut t in let w = count-append t l1.view.parts r1.view.parts in omega arith);
   has = λ n b. (let x = l.has n b in let y = r.has n b in let z = cut (held race n b false) in let w = cut (held race n b true) in let u = count-append (held race n b false) l1.view.parts r1.view.parts in
       let v = count-append (held race n b true) l1.view.parts r1.view.parts in omega arith);
   seen = λ q w h. together_seen q w l1.view r1.view (inl (l.seen q w (subst (λ (z : Runner). HasSeen z.view q w) (sym stays) (record { noted = h.noted }))));
+  ended = λ t e. ap (λ o. option_or o r1.view.end) (l.ended t (ap (λ (z : Runner). z.view.end) stays ∙ e));
   top = (let x = l.top in let a : l0.view.top ≡ old.view.top = ap (λ (z : Runner). z.view.top) stays in omega arith);
 })
   where
@@ -110,8 +119,10 @@ visited r0 r1 r2 r3 race branch e k (r, b, l) =
       table = sym (ap (λ (z : Runner). z.table) l) ∙ (k.table ∙ ap (λ (z : Runner). z.table) e);
       chain = sym (init_snoc r3.chain (place r b)) ∙ (ap init (sym (ap (λ (z : Runner). z.chain) l) ∙ (k.chain ∙ ap (λ (z : Runner). z.chain) e)) ∙ init_snoc r0.chain (place race branch));
       workers = ap (λ (v : View). v.workers) (sym leaves) ∙ (k.workers ∙ ap (λ (v : View). v.workers) enters);
+      pool = ap (λ (v : View). v.pool) (sym leaves) ∙ (k.pool ∙ ap (λ (v : View). v.pool) enters);
       parts = λ t. (let x = k.parts t in let y : count t r1.view.parts ≡ count t r0.view.parts = ap (λ (v : View). count t v.parts) enters in let w : count t r2.view.parts ≡ count t r3.view.parts = ap (λ (v : View). count t v.parts) leaves in omega arith);
       seen = λ q w h. subst (λ (v : View). HasSeen v q w) leaves (k.seen q w (subst (λ (v : View). HasSeen v q w) (sym enters) h));
+      ended = λ t e. ap (λ (v : View). v.end) (sym leaves) ∙ k.ended t (ap (λ (v : View). v.end) enters ∙ e);
       top = (let x = k.top in let y : r1.view.top ≡ r0.view.top = ap (λ (v : View). v.top) enters in let w : r2.view.top ≡ r3.view.top = ap (λ (v : View). v.top) leaves in omega arith);
     }
 
@@ -137,8 +148,10 @@ opened_grows n race N r0 r1 r2 o none k = record {
   table = k.table ∙ ap (λ (z : Runner). z.table) o.1;
   chain = k.chain ∙ ap (λ (z : Runner). z.chain) o.1;
   workers = k.workers ∙ ap (λ (z : Runner). z.view.workers) now;
+  pool = k.pool ∙ ap (λ (z : Runner). z.view.pool) now;
   parts = λ t. by t (cases_eq t.race race);
   seen = λ q w m. k.seen q w (subst (λ (z : Runner). HasSeen z.view q w) (sym now) (record { noted = m.noted }));
+  ended = λ t e. k.ended t (ap (λ (z : Runner). z.view.end) now ∙ e);
   top = (let x = k.top in let a : r1.view.top ≡ r0.view.top = ap (λ (z : Runner). z.view.top) now in omega arith);
 }
   where

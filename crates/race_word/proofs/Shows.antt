@@ -42,15 +42,15 @@ module _ (terms : Terms) (s : Table) (h : Holds terms s) (id : ℕ) (v : View) (
   loaded i w k parts = subst (λ ws. Holds terms (next s ws id w) × Same (table_shows (next s ws id w)) (table_shows s)) (sym (set-get_or s.words i 0))
       (k, quiet terms s (next s s.words id w) h k refl refl (λ r. total_same (λ u. of_race r u.parts) s.views id v w at (ap (of_race r) parts)) (λ r. refl))
 
-  show_open : (n : ℕ) → n ≤ 65536 → 0 < v.workers → v.refused ≡ false → Holds terms (next s (raised s 0) id (after_open n (slice_index s.words 0) v))
+  show_open : (n : ℕ) → 1 ≤ n → n ≤ 65536 → 0 < v.workers → v.refused ≡ false → Holds terms (next s (raised s 0) id (after_open n (slice_index s.words 0) v))
       × Same (table_shows (next s (raised s 0) id (after_open n (slice_index s.words 0) v))) (after (cond (ltb (slice_index s.words 0) 4095) (begins n) rests) (table_shows s))
-  show_open n fit pos unmarked = (k, by (ltb (slice_index s.words 0) 4095) refl k)
+  show_open n least fit pos unmarked = (k, by (ltb (slice_index s.words 0) 4095) refl k)
     where
       x : ℕ
       x = slice_index s.words 0
 
       k : Holds terms (next s (raised s 0) id (after_open n (slice_index s.words 0) v))
-      k = opens terms s h id n v at pos fit unmarked
+      k = opens terms s h id n v at pos least fit unmarked
 
       word : (r : ℕ) → word_of (raised s 0) r ≡ word_of s.words r
       word r = word_else s.words 0 (slice_index s.words 0 + 1) r (omega arith)
@@ -133,7 +133,7 @@ module _ (terms : Terms) (s : Table) (h : Holds terms s) (id : ℕ) (v : View) (
 
 pub steps_show : StepsShow
 steps_show terms s id v (opens_step n) h at may = subst (λ z. Holds terms (next s (set s.words 0 z) id (after_open n (slice_index s.words 0) v)) × Same (table_shows (next s (set s.words 0 z) id (after_open n (slice_index s.words 0) v))) (after (event (opens_step n) s) (table_shows s)))
-    (let few = workers_few terms 0 id (v, []) s h (λ u. u.refused) in let most = h.races_most in omega arith) (show_open terms s h id v at n may.0 may.1 may.2)
+    (let few = workers_few terms 0 id (v, []) s h (λ u. u.refused) in let most = h.races_most in omega arith) (show_open terms s h id v at n may.0 may.1 may.2 may.3)
 steps_show terms s id v (polls_step k) h at may = loaded terms s h id v at (k + 2) (after_poll (suc k) (slice_index s.words (k + 2)) v) (polls terms s h id (suc k) v at) refl
 steps_show terms s id v (collects_step k) h at may = loaded terms s h id v at (k + 2) (after_collect (suc k) (slice_index s.words (k + 2)) v) (collects terms s h id (suc k) v at) refl
 steps_show terms s id v (tries_step k b) h at may = show_try terms s h id v at k b may

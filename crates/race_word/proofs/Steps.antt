@@ -1,5 +1,5 @@
 -- Each step of the table may be taken.
-use Rattle.std.proofs.Common.{◌≡◌, ◌≢◌, ◌⊎◌, ℕ, zero, suc, ◌+◌, ◌-◌, ◌%◌, ◌^◌, ◌<◌, ◌≤◌, Bool, true, false, eqb, ◌∷◌, set, None, sym, refl, ap, ◌∙◌, subst, inl, inr, ⊎_elim, arith, ne_eqb}
+use Rattle.std.proofs.Common.{◌≡◌, ◌≢◌, ◌⊎◌, ℕ, zero, suc, ◌+◌, ◌-◌, ◌%◌, ◌^◌, ◌<◌, ◌≤◌, Bool, true, false, eqb, ◌∷◌, set, Some, None, sym, refl, ap, ◌∙◌, subst, inl, inr, ⊎_elim, arith, ne_eqb}
 use Rattle.std.specs.Prelude.{slice_index, is_some}
 use Rattle.std.proofs.lemmas.List.{set-get_or}
 use mathlib.Core.Option.{none, some}
@@ -10,8 +10,8 @@ use Rattle.race_word.specs.declared.view.View.{View}
 use Rattle.race_word.specs.declared.view.Terms.{Terms}
 use Rattle.race_word.specs.Views.{held, count, of_race, note, newcomer, after_open, after_collect, after_poll, after_win, after_draw, stays_with, goes_with, together}
 use Rattle.race_word.specs.Has.{MayWin, HasWin, HasAll}
-use Rattle.race_word.specs.Plays.{Learns, Mine, Opened, Polled, Tried, Drawn, Collected, Counted}
-use Rattle.race_word.specs.Rule.{Table, total, when, size_of, owed, Holds}
+use Rattle.race_word.specs.Plays.{Learns, Mine, Opened, Polled, Tried, Drawn, Collected, Counted, EndIs}
+use Rattle.race_word.specs.Rule.{Table, total, when, size_of, owed, Ended, Holds}
 use Rattle.race_word.proofs.Sums.{total_part, total_le}
 use Rattle.atomic_table.proofs.Lists.{set_again}
 use Rattle.race_word.proofs.Keeps.{next, looks, polls, collects, opens, draws}
@@ -88,7 +88,10 @@ module _ (terms : Terms) (slots id : ℕ) (me : Mine) where
 
   pub may_count : Allows (Holds terms) slots id me 0 (λ n. n) (Counted (step slots 0 0 0 none) me)
   may_count s h _ at _ = let b = h.shared_out in let c = h.fits in let p = total_part (λ u. u.workers) s.views id me.0 at in
-      (me.0, keeps, tt, unmoved s 0 me.0 (subst (λ vs. Holds terms (record { words = s.words; homes = s.homes; views = vs })) (sym (set_again s.views id me.0 at)) h), (refl, omega arith))
+      (me.0, keeps, tt, unmoved s 0 me.0 (subst (λ vs. Holds terms (record { words = s.words; homes = s.homes; views = vs })) (sym (set_again s.views id me.0 at)) h), (refl, omega arith, λ works. ends works))
+    where
+      ends : 0 < me.0.workers → EndIs me.0
+      ends works t is = let k = h.knows id me.0 at in let p = k.same_pool works in let e : Ended terms.pool me.0.top (Some t) = subst (λ o. Ended terms.pool me.0.top o) is k.ended in (let x = e.0 in omega arith, e.1)
 
   none_there : (s : Table) (h : Holds terms s) (at : get_elem? s.views id ≡ some me.0) → of_race (slice_index s.words 0 + 1) me.0.parts ≡ 0
   none_there s h at = by (of_race (slice_index s.words 0 + 1) me.0.parts) refl
@@ -97,10 +100,10 @@ module _ (terms : Terms) (slots id : ℕ) (me : Mine) where
       by zero e = refl
       by (suc n) e = absurd (let a = total_part (λ u. of_race (slice_index s.words 0 + 1) u.parts) s.views id me.0 at in let d = h.drawn (slice_index s.words 0 + 1) (omega arith) in let x = d.2 in omega arith)
 
-  pub may_open : (n : ℕ) → n ≤ 65536 → 0 < me.0.workers → me.0.refused ≡ false → Allows (Holds terms) slots id me 0 (λ x. (x + 1) % 2 ^ 64) (Opened n (step slots 0 1 0 none) me)
-  may_open n fit pos unmarked s h _ at _ =
+  pub may_open : (n : ℕ) → 1 ≤ n → n ≤ 65536 → 0 < me.0.workers → me.0.refused ≡ false → Allows (Holds terms) slots id me 0 (λ x. (x + 1) % 2 ^ 64) (Opened n (step slots 0 1 0 none) me)
+  may_open n least fit pos unmarked s h _ at _ =
       let x : ℕ = slice_index s.words 0 in let few = workers_few s h (λ u. u.refused) in let most = h.races_most in let same : x + 1 ≡ (x + 1) % 2 ^ 64 = omega arith in
-      (after_open n x me.0, keeps, tt, subst (λ z. Holds terms (next s (set s.words 0 z) id (after_open n x me.0))) same (opens terms s h id n me.0 at pos fit unmarked), (refl, none_there s h at))
+      (after_open n x me.0, keeps, tt, subst (λ z. Holds terms (next s (set s.words 0 z) id (after_open n x me.0))) same (opens terms s h id n me.0 at pos least fit unmarked), (refl, none_there s h at))
 
   pub may_draw : 0 < me.0.workers → me.0.end ≡ None → Allows (Holds terms) slots id me 1 (λ x. (x + 1) % 2 ^ 64) (Drawn (step slots 1 1 0 none) me)
   may_draw pos unmarked s h _ at _ =

@@ -1,5 +1,5 @@
 -- What a call leaves of a racer: relations between the racer before and the racer after.
-use Rattle.std.specs.Prelude.{ℕ, ◌≡◌, ◌≢◌, ◌≤◌, ◌⊎◌, List, [], ◌∷◌}
+use Rattle.std.specs.Prelude.{ℕ, ◌≡◌, ◌≢◌, ◌≤◌, ◌⊎◌, List, [], ◌∷◌, Some}
 use Rattle.race_word.specs.declared.view.Held.{Held}
 use Rattle.race_word.specs.declared.view.View.{View}
 use Rattle.race_word.specs.declared.place.Place.{Place}
@@ -8,13 +8,15 @@ use Rattle.race_word.specs.Views.{count}
 use Rattle.race_word.specs.Has.{HasSeen}
 use Rattle.race_word.specs.Runner.{Runner}
 
--- Still one of this table; chain, workers, branches and wins are as they were; a winner that was seen stays seen; the top doesn't fall
+-- Still one of this table; chain, workers, pool, branches and wins are as they were; a winner that was seen stays seen, and a pool end that was noted stays noted; the top doesn't fall
 pub record Keeps (old new : Runner) : Type 0 where
   pub table : new.table ≡ old.table
   pub chain : new.chain ≡ old.chain
   pub workers : new.view.workers ≡ old.view.workers
+  pub pool : new.view.pool ≡ old.view.pool
   pub parts : (t : Held) → count t new.view.parts ≡ count t old.view.parts
   pub seen : (race winner : ℕ) → HasSeen old.view race winner → HasSeen new.view race winner
+  pub ended : (ticket : ℕ) → old.view.end ≡ Some ticket → new.view.end ≡ Some ticket
   pub top : old.view.top ≤ new.view.top
 
 -- The same, but branches and wins may have come to those that it had
@@ -22,8 +24,10 @@ pub record Grows (old new : Runner) : Type 0 where
   pub table : new.table ≡ old.table
   pub chain : new.chain ≡ old.chain
   pub workers : new.view.workers ≡ old.view.workers
+  pub pool : new.view.pool ≡ old.view.pool
   pub parts : (t : Held) → count t old.view.parts ≤ count t new.view.parts
   pub seen : (race winner : ℕ) → HasSeen old.view race winner → HasSeen new.view race winner
+  pub ended : (ticket : ℕ) → old.view.end ≡ Some ticket → new.view.end ≡ Some ticket
   pub top : old.view.top ≤ new.view.top
 
 -- the chain has a place of that race, at another branch than the winner

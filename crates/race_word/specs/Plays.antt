@@ -1,5 +1,5 @@
 -- What each kind of step tells the seat that takes it: the word that it found, and how its view changes.
-use Rattle.std.specs.Prelude.{ℕ, ◌+◌, ◌-◌, ◌≡◌, ◌≢◌, ◌<◌, ◌≤◌}
+use Rattle.std.specs.Prelude.{ℕ, ◌+◌, ◌-◌, ◌≡◌, ◌≢◌, ◌<◌, ◌≤◌, Some}
 use Rattle.atomic_table.specs.Table.{Me, Step}
 use Rattle.race_word.specs.declared.view.View.{View}
 use Rattle.race_word.specs.Views.{of_race, after_open, after_poll, after_collect, after_win, after_draw}
@@ -36,6 +36,10 @@ pub record Learns (v : View) (r found : ℕ) : Type 0 where
 abbrev pub Collected : Step (Unit {0}) → Mine → ℕ → Mine → Type 0
 Collected st m found m' = (m' ≡ (after_collect (st.word - 1) found m.0, m.1)) × (found ≤ 65536) × Learns m.0 (st.word - 1) found
 
--- the seat has no more workers than there are
+-- a pool end that the seat noted, or one that it came from or took in, is at least its pool and below its top
+abbrev pub EndIs : View → Type 0
+EndIs v = (ticket : ℕ) → v.end ≡ Some ticket → (v.pool ≤ ticket) × (ticket < v.top)
+
+-- the seat has no more workers than there are, and with a worker its pool end is one
 abbrev pub Counted : Step (Unit {0}) → Mine → ℕ → Mine → Type 0
-Counted st m found m' = (m' ≡ m) × (m.0.workers ≤ 64)
+Counted st m found m' = (m' ≡ m) × (m.0.workers ≤ 64) × (0 < m.0.workers → EndIs m.0)

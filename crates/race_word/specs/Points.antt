@@ -30,7 +30,8 @@ pub record Points (terms : Terms) (s : Table) : Type 0 where
   pub draws_most : slice_index s.words 1 ≤ terms.pool + total (λ v. when (is_some v.end) v.workers) s.views
   pub ended : (id : ℕ) (v : View) (ticket : ℕ) → Sits s id v → v.end ≡ Some ticket → (terms.pool ≤ ticket) × (ticket < v.top)
   pub top : (id : ℕ) (v : View) → Sits s id v → v.top ≤ slice_index s.words 1
-  -- 4. A race has its branches from 0 on, each in exactly one view, and no view has another of it. Its word is 0 or one of them plus 1. A race that wasn't drawn has no branches, and the word 0
+  -- 4. A race that was drawn has at least one branch. A race has its branches from 0 on, each in exactly one view, and no view has another of it. Its word is 0 or one of them plus 1. A race that wasn't drawn has no branches, and the word 0
+  pub drawn : (r : ℕ) → 0 < r → r ≤ min (slice_index s.words 0) 4095 → 0 < size_of s.views r
   pub branches : (r b : ℕ) → b < size_of s.views r → IsInOne s r (size_of s.views r) b
   pub only : (id : ℕ) (v : View) (r size b : ℕ) → Sits s id v → HasBranch v r size b → (size ≡ size_of s.views r) × (b < size)
   pub word : (r : ℕ) → word_of s.words r ≤ size_of s.views r

@@ -59,6 +59,7 @@ pub record Holds (terms : Terms) (s : Table) : Type 0 where
   pub lemmas : total (λ v. v.draws) s.views ≡ slice_index s.words 1
   pub lemmas_most : slice_index s.words 1 ≤ terms.pool + total (λ v. when (is_some v.end) v.workers) s.views
   pub drawn : (r : ℕ) → 0 < size_of s.views r → (0 < r) × (r ≤ 4095) × (r ≤ slice_index s.words 0)
+  pub sized : (r : ℕ) → 0 < r → r ≤ 4095 → r ≤ slice_index s.words 0 → 0 < size_of s.views r
   pub small : (r : ℕ) → size_of s.views r ≤ 65536
   pub parts : (t : Held) → total (λ v. count t v.parts) s.views ≡ owed (size_of s.views t.race) (word_of s.words t.race) t
   pub in_range : (r : ℕ) → word_of s.words r ≤ size_of s.views r

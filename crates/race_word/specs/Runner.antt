@@ -19,6 +19,11 @@ pub record Runner : Type 0 where
   pub view : View
   pub chain : List Place
 
+-- the racer was made with the table, or comes from one that was: it belongs to it and knows its pool
+pub record IsOf (races : Arena) (r : Runner) : Type 0 where
+  pub table : r.table ≡ races.table
+  pub pool : r.view.pool ≡ races.terms.pool
+
 -- the racer, knowing that
 abbrev pub with_view : Runner → View → Runner
 with_view r v = record { table = r.table; view = v; chain = r.chain }

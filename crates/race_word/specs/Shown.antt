@@ -82,7 +82,7 @@ pub data TableStep : Type 0 where
 
 -- the seat may take the step
 abbrev pub May : TableStep → Table → ℕ → View → Type 0
-May (opens n) s id v = (n ≤ 65536) × (0 < v.workers) × (v.refused ≡ false)
+May (opens n) s id v = (1 ≤ n) × (n ≤ 65536) × (0 < v.workers) × (v.refused ≡ false)
 May (polls k) s id v = Unit {0}
 May (collects k) s id v = Unit {0}
 May (tries k b) s id v = MayWin v (suc k) b

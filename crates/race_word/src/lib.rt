@@ -9,8 +9,6 @@ mod law;
 mod place;
 mod racer;
 mod rule;
-#[cfg(test)]
-mod tests;
 mod view;
 
 pub use law::{

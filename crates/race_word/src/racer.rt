@@ -3,7 +3,7 @@ ghost use Rattle.std.specs.Prelude.{◌≡◌, ◌≢◌, ◌+◌, ◌-◌, ◌<
 ghost use Rattle.race_word.specs.Views.{stays_with, goes_with, together, newcomer, of_race};
 ghost use Rattle.race_word.specs.Has.{HasBranch, HasUnwon, HasWon, HasWin, MayWin, HasAll, HasFresh, HasSeen, Tells};
 ghost use Rattle.race_word.specs.Keeps.{Keeps, Grows, SeenOn};
-ghost use Rattle.race_word.specs.Runner.{with_view, with_chain, place, Opens, Tries, tried, Draws, Collects, winner, Polls};
+ghost use Rattle.race_word.specs.Runner.{IsOf, with_view, with_chain, place, Opens, Tries, tried, Draws, Collects, winner, Polls};
 
 use crate::place::{Place, PoolEnd, RaceNo, Seen, Totals, Won};
 use crate::rule::{self, RaceRule};
@@ -63,6 +63,7 @@ impl Races {
         requires workers { (1 ≤ workers) × (workers ≤ 64) }
         ensures racer { IfOk result (λ r. r.1 ≡ record { table = r.0.table; view = newcomer pool workers; chain = [] }) }
         ensures terms { IfOk result (λ r. r.0.terms ≡ record { pool = pool; workers = workers }) }
+        ensures of { IfOk result (λ r. IsOf r.0 r.1) }
     {
         let terms = Terms {
             pool,
@@ -202,7 +203,8 @@ impl Racer {
         requires { self.old.table ≡ races.now.table }
         ensures noted { IfSome self.old.view.end (λ t. (self.new ≡ self.old) × (result ≡ Err (record { ticket = t }))) }
         ensures drawn { self.old.view.end ≡ None → Draws self.old result self.new }
-        ensures ticket { IfOk result (λ t. (self.old.view.top ≤ t) × (self.new.view.top ≡ t + 1)) }
+        ensures ticket { IfOk result (λ t. (self.old.view.top ≤ t) × (t < self.new.view.pool) × (self.new.view.top ≡ t + 1)) }
+        ensures ended { IfErr result (λ e. (self.new.view.pool ≤ e.ticket) × (e.ticket < self.new.view.top)) }
         ensures keeps { Keeps self.old self.new }
     {
         if let Some(ticket) = self.end {

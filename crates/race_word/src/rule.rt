@@ -2,7 +2,7 @@
 ghost use Rattle.std.specs.Prelude.{◌≡◌, ◌+◌, ◌-◌, ◌<◌, ◌≤◌, ◌≢◌, ℕ, [], false, None};
 ghost use Rattle.race_word.specs.Views.{after_open, after_win, after_draw, after_poll, after_collect, stays_with, goes_with, together, of_race};
 ghost use Rattle.race_word.specs.Has.{MayWin};
-ghost use Rattle.race_word.specs.Plays.{Learns};
+ghost use Rattle.race_word.specs.Plays.{Learns, EndIs};
 
 use crate::view::{Terms, View};
 use atomic_table::{Join, Play, Seat, Shared, Split, TableRule};
@@ -136,7 +136,7 @@ type RaceSeat = Seat<(), View>;
 
 /// The number that word 0 held. With it a race is begun, or the seat is marked.
 pub(crate) fn open_as<A: Asked>(words: &Words, seat: &mut RaceSeat, branches: u32) -> u64
-    requires asked { (branches ≡ A.branches) × (branches ≤ 65536) }
+    requires asked { (branches ≡ A.branches) × (1 ≤ branches) × (branches ≤ 65536) }
     requires table { (seat.old.table_id ≡ words.now.table_id) × (words.now.table_id.words ≡ 4097) }
     requires works { (0 < seat.old.me.0.workers) × (seat.old.me.0.refused ≡ false) }
     ensures same { (seat.new.table_id ≡ seat.old.table_id) × (seat.new.id ≡ seat.old.id) }
@@ -221,11 +221,12 @@ pub(crate) fn join(words: &Words, seat: &mut RaceSeat, other: RaceSeat)
     words.join_seat::<Rejoining>(seat, other);
 }
 
-/// The seat has at most 64 workers.
+/// The seat has at most 64 workers, and a pool end that it noted is at least its pool and below its top.
 pub(crate) fn count(words: &Words, seat: &mut RaceSeat)
     requires table { (seat.old.table_id ≡ words.now.table_id) × (words.now.table_id.words ≡ 4097) }
     ensures same { (seat.new.table_id ≡ seat.old.table_id) × (seat.new.id ≡ seat.old.id) × (seat.new.me ≡ seat.old.me) }
     ensures few { seat.old.me.0.workers ≤ 64 }
+    ensures ended { 0 < seat.old.me.0.workers → EndIs seat.old.me.0 }
 {
     words.load::<Counting>(seat, 0);
 }

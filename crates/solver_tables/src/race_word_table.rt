@@ -1,6 +1,7 @@
-ghost use Rattle.std.specs.Prelude.{◌≡◌, ◌≤◌};
+//! The race table: two seats from one thread, and two racers on two threads.
+ghost use Rattle.std.specs.Prelude.{◌≡◌};
 
-use crate::{PoolEnd, Racer, Races};
+use race_word::{PoolEnd, Racer, Races};
 use std::test::Fail;
 use std::thread::{Threads, join};
 

@@ -1,4 +1,5 @@
-use crate::{BranchState, Place, RaceKind, RaceState, RaceStep, run_steps};
+//! The race machine: lists of steps with what they leave, and which of them it refuses.
+use race_core::{BranchState, Place, RaceKind, RaceState, RaceStep, apply_step, run_steps};
 use std::alloc::{AllocError, Global};
 use std::test::Fail;
 
@@ -229,5 +230,28 @@ fn races_are_numbered_to_4095(rt: HostRuntime) -> Result<(), Fail> {
     steps.push(begin(ROOT, 1))?;
     let past = run_steps(rt.alloc(), &start, &steps)?;
     assert!(rt; most.is_some() && past.is_none());
+    Ok(())
+}
+
+#[test]
+fn one_step_copies_the_state(rt: HostRuntime) -> Result<(), Fail> {
+    let start = RaceState::start(rt.alloc(), 8)?;
+    let Some(begun) = apply_step(rt.alloc(), &start, &begin(ROOT, 2))? else {
+        panic!(rt; "the root begins no race")
+    };
+    let won = apply_step(rt.alloc(), &begun, &win(SECOND))?;
+    let refused = apply_step(rt.alloc(), &begun, &win(ROOT))?;
+    let Some(won) = won else {
+        panic!(rt; "a branch doesn't win")
+    };
+    assert!(rt; refused.is_none() && start.races.len() == 0);
+    assert_eq!(rt;
+        Some(end_of(&begun)),
+        ended(1, 0, 0, BranchState::Running, BranchState::Running)
+    );
+    assert_eq!(rt;
+        Some(end_of(&won)),
+        ended(1, 0, 2, BranchState::Running, BranchState::Won)
+    );
     Ok(())
 }

@@ -4,7 +4,7 @@ use Rattle.race_word.specs.Has.{HasUnwon}
 use Rattle.race_word.specs.Runner.{Runner}
 use Rattle.race_word.proofs.Having.{unwon_has}
 use Rattle.race_word.proofs.Racers.{keeps_grows, grows_unwon}
-use Rattle.race_word.proofs.tests.a_poll_sees_the_win_of_another_branch.Goals as goal
+use Rattle.solver_tables.proofs.race_word_table.a_poll_sees_the_win_of_another_branch.Goals as goal
 
 pub enter-requires-clause-has : goal.enter-requires-clause-has
 enter-requires-clause-has g c = (2, unwon_has c.split-second.new.self.view c.in-Some.race 2 0 (c.split-second.ensures.low 2 0 (omega arith) (c.in-Some.ensures.opened.each 0 (omega arith))))

@@ -2,7 +2,7 @@ use Rattle.std.proofs.Common.{arith, ℕ, zero, suc, ◌<◌}
 use Rattle.race_word.specs.declared.view.View.{View}
 use Rattle.race_word.specs.Has.{HasBranch, HasUnwon}
 use Rattle.race_word.proofs.Having.{unwon_has}
-use Rattle.race_word.proofs.tests.the_winner_is_seen_and_collected.Goals as goal
+use Rattle.solver_tables.proofs.race_word_table.the_winner_is_seen_and_collected.Goals as goal
 
 pub win-requires-clause-unwon : goal.win-requires-clause-unwon
 win-requires-clause-unwon g c = (2, c.split-second.ensures.high 2 1 (omega arith) (c.in-Some.ensures.opened.each 1 (omega arith)))
