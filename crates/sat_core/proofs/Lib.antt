@@ -3,7 +3,6 @@ pub mod Codes
 pub mod Decisions
 pub mod Learning
 pub mod Searching
-pub mod Agreeing
 pub mod Slots
 pub mod Visits
 pub mod Turns
@@ -14,4 +13,8 @@ pub mod Analyses
 pub mod Appends
 pub mod Jumps
 pub mod Levels
+pub mod Lessons
+pub mod Loads
+pub mod Heaps
 pub mod Pieces
+pub mod Refuting

@@ -1,29 +1,30 @@
 //! A clause solver: clauses in; a model, a refutation or lemmas out, each line of which follows by reverse unit
 //! propagation from its hints.
 //!
-//! The contract for the layer above is that of `Solver::solve`, which runs a plain search so far. `arena`, `trail`, `marks`, `watches`,
-//! `visit`, `process`, `analyze`, `backtrack`, `append` and `descend` are the proved parts of the search with two watched literals that is
-//! to take its place. The crate stands on `rup`.
+//! The contract for the layer above is that of `Solver::solve`. The search watches two literals of each clause, analyses each
+//! false clause to its first unique implication point, and jumps back with the lemma; lemmas are kept for good. The crate
+//! stands on `rup`.
 #![tactic(auto)]
 
 mod analyze;
 mod append;
 mod arena;
-mod assigned;
 mod backtrack;
-mod decide;
 mod descend;
+mod laws;
 mod learn;
+mod load;
 mod marks;
+mod numbers;
 mod process;
-mod propagate;
+mod scores;
 mod solver;
-#[cfg(test)]
-mod tests;
+mod step;
 mod trail;
 mod visit;
 mod watch;
 mod watches;
 
+pub use laws::refuted_clauses_have_no_model;
 pub use solver::{RupLine, Solved, Solver, are_below};
 pub use watch::Watch;

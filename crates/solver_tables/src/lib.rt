@@ -1,7 +1,13 @@
-//! Tables of tests of the clause solver and of what it stands on, a module a crate. There is no other code here.
+//! Tables of tests of the clause solver, of the races and of what they stand on, a module a crate. There is no other code here.
 #![tactic(auto)]
 
+#[cfg(test)]
+mod literals;
 #[cfg(test)]
 mod race_core_table;
 #[cfg(test)]
 mod race_word_table;
+#[cfg(test)]
+mod rup_table;
+#[cfg(test)]
+mod sat_core_table;
