@@ -1,32 +1,40 @@
 #!/usr/bin/env python3
-"""Writes a set of clauses as an SMT-LIB script to standard output.
+"""Writes a set of clauses to standard output, in DIMACS form or as an SMT-LIB script.
 
-usage: clauses.py random NAMES SEED     random clauses of three different names, 4.2 clauses a name
-       clauses.py pigeons N             N pigeons, each in one of N - 1 holes, no two in one: no model
+usage: clauses.py FORM random NAMES SEED    random clauses of three different names, 4.26 clauses a name
+       clauses.py FORM pigeonhole HOLES     one pigeon more than HOLES, each in a hole, no two in one: no model
 
-The same words give the same script. The strategy is `sat`, so that the script's one check is one search.
+FORM is `dimacs` or `script`. The same words give the same clauses. The script's strategy is `sat`, so that its one check is
+one search.
 """
 import random
 import sys
+
+CLAUSES_A_NAME = 4.26
 
 
 def random_clauses(names, seed):
     """Clauses over the names 1 to `names`; a literal is a name, or its negative number."""
     draw = random.Random(seed)
-    for _ in range(round(4.2 * names)):
+    for _ in range(round(CLAUSES_A_NAME * names)):
         chosen = draw.sample(range(1, names + 1), 3)
         yield [name if draw.random() < 0.5 else -name for name in chosen]
 
 
-def pigeon_clauses(pigeons):
-    """Name (p - 1) * holes + h says that pigeon p sits in hole h."""
-    holes = pigeons - 1
+def pigeonhole_clauses(holes):
+    """Name p * holes + h says that pigeon p, from 0, sits in hole h, from 1."""
+    pigeons = holes + 1
     for p in range(pigeons):
         yield [p * holes + h for h in range(1, holes + 1)]
     for h in range(1, holes + 1):
         for p in range(pigeons):
             for q in range(p):
                 yield [-(p * holes + h), -(q * holes + h)]
+
+
+def dimacs(names, clauses):
+    rows = [" ".join(str(lit) for lit in (*clause, 0)) for clause in clauses]
+    return "\n".join([f"p cnf {names} {len(rows)}", *rows]) + "\n"
 
 
 def script(names, clauses):
@@ -38,13 +46,22 @@ def script(names, clauses):
     return "\n".join(lines) + "\n"
 
 
+FORMS = {"dimacs": dimacs, "script": script}
+
+
+def text(form, kind, size, seed=0):
+    """The set of that kind and size, in a form of FORMS."""
+    if kind == "random":
+        return FORMS[form](size, random_clauses(size, seed))
+    return FORMS[form]((size + 1) * size, pigeonhole_clauses(size))
+
+
 def main(words):
-    if len(words) == 3 and words[0] == "random":
-        names = int(words[1])
-        return script(names, random_clauses(names, int(words[2])))
-    if len(words) == 2 and words[0] == "pigeons" and int(words[1]) > 1:
-        pigeons = int(words[1])
-        return script(pigeons * (pigeons - 1), pigeon_clauses(pigeons))
+    match words:
+        case [form, "random", names, seed] if form in FORMS and int(names) > 2:
+            return text(form, "random", int(names), int(seed))
+        case [form, "pigeonhole", holes] if form in FORMS and int(holes) > 0:
+            return text(form, "pigeonhole", int(holes))
     sys.exit(__doc__)
 
 

@@ -18,3 +18,4 @@ pub mod Loads
 pub mod Heaps
 pub mod Pieces
 pub mod Refuting
+pub mod Restarting

@@ -1,5 +1,5 @@
 -- Lines that refute clauses show that the clauses have no model.
-use Rattle.std.proofs.Common.{◌≡◌, ℕ, Bool, true, false, ◌&&◌, List, [], ◌∷◌, ◌++◌, inl, inr, refl, arith}
+use Rattle.std.proofs.Common.{◌≡◌, ℕ, Bool, true, List, [], ◌∷◌, ◌++◌, inl, inr, refl, arith}
 use Rattle.std.proofs.lemmas.Grind.{common_steps}
 use Rattle.rup.specs.declared.literal.Lit.{Lit}
 use Rattle.rup.specs.Literals.{clause_true, all_true}

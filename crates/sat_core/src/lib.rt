@@ -1,9 +1,9 @@
 //! A clause solver: clauses in; a model, a refutation or lemmas out, each line of which follows by reverse unit
 //! propagation from its hints.
 //!
-//! The contract for the layer above is that of `Solver::solve`. The search watches two literals of each clause, analyses each
-//! false clause to its first unique implication point, and jumps back with the lemma; lemmas are kept for good. The crate
-//! stands on `rup`.
+//! The contract for the layer above is that of `Solver::solve`. The search watches two literals of each clause, makes of each
+//! false clause a lemma with one literal of the last level, jumps back with it, and starts again now and then; lemmas are kept
+//! for good. The crate stands on `rup`.
 #![tactic(auto)]
 
 mod analyze;
@@ -17,10 +17,12 @@ mod load;
 mod marks;
 mod numbers;
 mod process;
+mod restart;
 mod scores;
 mod solver;
 mod step;
 mod trail;
+mod tuning;
 mod visit;
 mod watch;
 mod watches;
