@@ -9,9 +9,9 @@ use Rattle.qlin.specs.Junction.{has_constant, members, joined, packed, junction,
 use Rattle.qlin.specs.Canon.{canon, canons, after}
 use Rattle.qlin.proofs.Sorting.{In, unique, inserts_up, in_sorted, sorted_in}
 use Rattle.qcanon_laws.proofs.Canonical.{IsCanonical, AreCanonical, IsPlain, ArePlain, is_kind, some≢none, not_constant, same_itself, fixed}
-use Rattle.qcanon.specs.Junction.{joined_lists, flat}
+use Rattle.qnegation.specs.Junction.{joined_lists, flat}
 use Rattle.qcanon.specs.Chain.{leaves, all_leaves}
-use Rattle.qcanon.proofs.Junctions.{gathered_is, inserts_joined, flat_joined}
+use Rattle.qnegation.proofs.Junctions.{gathered_is, inserts_joined, flat_joined}
 
 -- ---- sorted lists
 in_first : (x : Tree) (ts us : Trees) → In x ts → In x (joined_lists ts us)

@@ -19,9 +19,9 @@ use Rattle.qlin.specs.Ite.{ite_of}
 use Rattle.qlin.specs.Negation.{neg}
 use Rattle.qcanon_laws.proofs.Sorts.{Good, Finds, canon_good}
 use Rattle.qcanon_laws.proofs.Closed.{its_own}
-use Rattle.qcanon.specs.declared.walk.Outcome.{Outcome}
-use Rattle.qcanon.specs.declared.walk.Outcome.TheVariants.{Canonical, Faulty}
-use Rattle.qcanon.specs.Answer.{IsOwn}
+use Rattle.qcanon.specs.declared.chain.Outcome.{Outcome}
+use Rattle.qcanon.specs.declared.chain.Outcome.TheVariants.{Canonical, Faulty}
+use Rattle.qnegation.specs.Answer.{IsOwn}
 use Rattle.qcanon.specs.Walk.{over, IsFound, id_of, first_fault}
 
 -- ---- by the children of a term

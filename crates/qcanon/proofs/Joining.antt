@@ -10,12 +10,12 @@ use Rattle.qlin.specs.Junction.{joined, junction}
 use Rattle.qlin.specs.Canon.{canon, canons, after}
 use Rattle.qcanon_laws.proofs.Canonical.{AreCanonical}
 use Rattle.qcanon.specs.declared.error.CanonError.{CanonError}
-use Rattle.qcanon.specs.declared.walk.Outcome.{Outcome}
-use Rattle.qcanon.specs.declared.walk.Outcome.TheVariants.{Canonical, Faulty}
+use Rattle.qcanon.specs.declared.chain.Outcome.{Outcome}
+use Rattle.qcanon.specs.declared.chain.Outcome.TheVariants.{Canonical, Faulty}
 use Rattle.qcanon.specs.declared.chain.Chain.{Chain}
 use Rattle.qcanon.specs.declared.chain.Answer.{Answer}
 use Rattle.qcanon.specs.declared.chain.Answer.TheVariants.{Found, Nested}
-use Rattle.qcanon.specs.Junction.{joined_lists}
+use Rattle.qnegation.specs.Junction.{joined_lists}
 use Rattle.qcanon.specs.Walk.{IsFound, id_of, first_fault, answer_of, NamesFault}
 use Rattle.qcanon.specs.Chain.{leaves, all_leaves, IsAnswer, IsLinked, Links}
 use Rattle.qcanon.proofs.Chains.{canon_joined, canon_leaves}

@@ -1,12 +1,9 @@
-pub mod Junctions
 pub mod Chains
 pub mod Nesting
 pub mod Joining
-pub mod Pairs
-pub mod Negated
-pub mod Opposites
 pub mod Narrow
 pub mod Sums
 pub mod Finding
+pub mod Known
 pub mod Listing
 pub mod Sorted

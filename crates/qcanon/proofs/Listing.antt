@@ -16,8 +16,8 @@ use Rattle.qlin.specs.Junction.{members}
 use Rattle.qlin.specs.Canon.{after}
 use Rattle.qlin.specs.CanonList.{canon_each, appended, spread, is_in, once, tidied, canon_list}
 use Rattle.qcanon_laws.proofs.Canonical.{same_itself, not_same}
-use Rattle.qcanon.specs.declared.walk.Outcome.{Outcome}
-use Rattle.qcanon.specs.declared.walk.Outcome.TheVariants.{Canonical, Faulty}
+use Rattle.qcanon.specs.declared.chain.Outcome.{Outcome}
+use Rattle.qcanon.specs.declared.chain.Outcome.TheVariants.{Canonical, Faulty}
 use Rattle.qcanon.specs.Walk.{IsFound, id_of, first_fault}
 
 -- ---- later repeats

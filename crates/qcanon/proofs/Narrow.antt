@@ -13,7 +13,7 @@ use Rattle.qlin.specs.declared.lin.Lin.{Lin}
 use Rattle.qlin.proofs.Merges.{both, puts_empty}
 use Rattle.qlin.proofs.Ranges.{range_at, range_fits}
 use Rattle.qcanon_laws.specs.Law.{AreReadable}
-use Rattle.qcanon.specs.Answer.{IsOwn}
+use Rattle.qnegation.specs.Answer.{IsOwn}
 use Rattle.qcanon.specs.Sums.{IsNarrow}
 
 -- ---- the test of the range

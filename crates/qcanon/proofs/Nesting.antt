@@ -16,15 +16,15 @@ use Rattle.qcanon_laws.proofs.Canonical.{AreCanonical}
 use Rattle.qcanon_laws.proofs.Sorts.{Good, Finds, canon_good}
 use Rattle.qcanon_laws.proofs.Closed.{its_own}
 use Rattle.qcanon_laws.proofs.Readable.{own_canonical}
-use Rattle.qcanon.specs.declared.walk.Outcome.{Outcome}
-use Rattle.qcanon.specs.declared.walk.Outcome.TheVariants.{Canonical, Faulty}
+use Rattle.qcanon.specs.declared.chain.Outcome.{Outcome}
+use Rattle.qcanon.specs.declared.chain.Outcome.TheVariants.{Canonical, Faulty}
 use Rattle.qcanon.specs.declared.chain.Chain.{Chain}
 use Rattle.qcanon.specs.declared.chain.Answer.{Answer}
 use Rattle.qcanon.specs.declared.chain.Answer.TheVariants.{Found, Nested}
 use Rattle.qcanon.specs.declared.chain.Settled.{Settled}
-use Rattle.qcanon.specs.Junction.{joined_lists}
+use Rattle.qnegation.specs.Junction.{joined_lists}
 use Rattle.qcanon.specs.Chain.{leaves, all_leaves, weight, all_weight, AreParts, IsTaken, IsChain, IsFor, IsSound, IsAnswer, IsLinked, Links, AreSettled}
-use Rattle.qcanon.proofs.Junctions.{trees_append, joined_none, joined_assoc, all_append}
+use Rattle.qnegation.proofs.Junctions.{trees_append, joined_none, joined_assoc, all_append}
 use Rattle.qcanon.proofs.Chains.{canon_leaves, canonical_leaves}
 use Rattle.qcanon.proofs.Finding.{IsFound_extends}
 

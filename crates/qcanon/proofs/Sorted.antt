@@ -10,8 +10,8 @@ use Rattle.qlin.specs.CanonList.{canon_each, appended, spread, is_in, once, tidi
 use Rattle.qcanon_laws.proofs.Sorts.{Good, Finds, finds_after, as_sort, canon_good}
 use Rattle.qcanon.proofs.Finding.{found_sort}
 use Rattle.qcanon.specs.declared.error.CanonError.{CanonError}
-use Rattle.qcanon.specs.declared.walk.Outcome.{Outcome}
-use Rattle.qcanon.specs.declared.walk.Outcome.TheVariants.{Canonical, Faulty}
+use Rattle.qcanon.specs.declared.chain.Outcome.{Outcome}
+use Rattle.qcanon.specs.declared.chain.Outcome.TheVariants.{Canonical, Faulty}
 use Rattle.qcanon.specs.Walk.{IsFound, answer_of}
 
 -- ---- one term

@@ -8,14 +8,14 @@ use Rattle.qwalk.specs.Walk.{same_id}
 use Rattle.qlin.specs.Junction.{joined}
 use Rattle.qlin.specs.Canon.{canon}
 use Rattle.qcanon_laws.proofs.Canonical.{AreCanonical}
-use Rattle.qcanon.specs.declared.walk.Outcome.{Outcome}
-use Rattle.qcanon.specs.declared.walk.Outcome.TheVariants.{Canonical, Faulty}
-use Rattle.qcanon.specs.declared.walk.Forms.{Forms}
+use Rattle.qcanon.specs.declared.chain.Outcome.{Outcome}
+use Rattle.qcanon.specs.declared.chain.Outcome.TheVariants.{Canonical, Faulty}
+use Rattle.qcanon.specs.declared.forms.Forms.{Forms}
 use Rattle.qcanon.specs.declared.chain.Answer.{Answer}
 use Rattle.qcanon.specs.declared.chain.Answer.TheVariants.{Found, Nested}
 use Rattle.qcanon.specs.declared.chain.Settled.{Settled}
-use Rattle.qcanon.specs.Junction.{joined_lists}
-use Rattle.qcanon.specs.Negation.{AreNegations}
+use Rattle.qnegation.specs.Junction.{joined_lists}
+use Rattle.qnegation.specs.Negation.{AreNegations}
 use Rattle.qcanon.specs.Walk.{IsFound}
 
 abbrev mutual
@@ -93,7 +93,8 @@ Links old new below a o = (t : Tree) → IsAnswer old t a → IsLinked new below
 pub record AreSettled (ts : List Tree) (table : Settled) : Type 0 where
   pub right : (i c : ℕ) → get same_id table.known i ≡ Some c → Has ts i × Has ts c × (canon (tree_at ts i) ≡ Ok (tree_at ts c))
 
--- the tables of the walk are right
-pub record AreReady (ts : List Tree) (f : Forms) : Type 0 where
-  pub negations : AreNegations ts f.table
+-- the tables of what was found are right: for each term that is known its answer, and the negations and settled terms
+pub record AreForms (ts : List Tree) (f : Forms) : Type 0 where
+  pub known : (i : ℕ) (a : Answer) → get same_id f.known i ≡ Some a → Has ts i × IsAnswer ts (tree_at ts i) a
+  pub negations : AreNegations ts f.negations
   pub settled : AreSettled ts f.settled

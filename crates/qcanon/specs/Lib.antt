@@ -1,8 +1,4 @@
-pub mod Answer
 pub mod Chain
-pub mod Junction
 pub mod List
-pub mod Negation
-pub mod Opposite
 pub mod Sums
 pub mod Walk

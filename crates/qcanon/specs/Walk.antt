@@ -11,8 +11,8 @@ use Rattle.qlin.specs.Negation.{neg}
 use Rattle.qlin.specs.Canon.{canon}
 use Rattle.qcanon.specs.declared.error.CanonError.{CanonError}
 use Rattle.qcanon.specs.declared.error.CanonError.TheVariants.{TooWide, Memory}
-use Rattle.qcanon.specs.declared.walk.Outcome.{Outcome}
-use Rattle.qcanon.specs.declared.walk.Outcome.TheVariants.{Canonical, Faulty}
+use Rattle.qcanon.specs.declared.chain.Outcome.{Outcome}
+use Rattle.qcanon.specs.declared.chain.Outcome.TheVariants.{Canonical, Faulty}
 
 -- the canonical form of a tree whose children are canonical
 abbrev pub over : Tree → Option Tree
@@ -34,6 +34,11 @@ over (Ite c d e) = ite_of c (neg c) d e
 abbrev pub IsFound : List Tree → Tree → Outcome → Type 0
 IsFound ts t (Canonical i) = Has ts i × (canon t ≡ Ok (tree_at ts i))
 IsFound ts t (Faulty i) = Has ts i × (canon t ≡ Err (tree_at ts i))
+
+-- the number is that of the canonical form, or there is none where the term has none
+abbrev pub IsCanon : List Tree → Result Tree Tree → Option ℕ → Type 0
+IsCanon ts r None = (w : Tree) × (r ≡ Err w)
+IsCanon ts r (Some c) = Has ts c × (r ≡ Ok (tree_at ts c))
 
 -- the id of an answer
 abbrev pub id_of : Outcome → ℕ

@@ -5,7 +5,7 @@ ghost use Rattle.qterm.specs.declared.name.Sort.TheVariants.{Int};
 ghost use Rattle.qlin.specs.Form.{form, times, if_in_range};
 ghost use Rattle.qlin.specs.Linear.{num_of, scale_of};
 ghost use Rattle.qlin.specs.Atom.{difference, le_of, eq_of};
-ghost use Rattle.qcanon.specs.Answer.{IsOwn, Answers};
+ghost use Rattle.qnegation.specs.Answer.{IsOwn, Answers};
 ghost use Rattle.qcanon.specs.Sums.{GivesForm, IsNarrow};
 
 use crate::form::{narrow, read, write};

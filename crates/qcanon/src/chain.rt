@@ -15,11 +15,18 @@ ghost use Rattle.qlin.specs.Canon.{canon};
 ghost use Rattle.qlin.specs.Junction.{junction, joined};
 ghost use Rattle.qcanon.specs.Chain.{leaves, all_leaves, all_weight, AreParts, IsTaken, IsChain, IsSound, IsAnswer, Links, AreSettled};
 
-use crate::junction::junction;
-use crate::walk::{Outcome, first_fault, ids_of};
+use crate::walk::{first_fault, ids_of};
+use qnegation::canonical_junction;
 use qterm::{Store, Term, TermId, TermIds};
 use std::alloc::{AllocError, Global};
 use std::collections::HashMap;
+
+/// The canonical term of a term, or its first subterm in postorder that has none.
+#[derive(Clone, Copy)]
+pub(crate) enum Outcome {
+    Canonical(TermId),
+    Faulty(TermId),
+}
 
 /// What a term answers: what was found, or a term with the same canonical form that is still nested.
 #[derive(Clone, Copy)]
@@ -283,7 +290,7 @@ fn flatten(
     ensures extends { Extends store.old store.new }
 {
     let under = leaves(alloc, store, is_and, ids)?;
-    junction(alloc, store, is_and, under.as_slice())
+    canonical_junction(alloc, store, is_and, under.as_slice())
 }
 
 /// The formulas under nested ones, from left to right.

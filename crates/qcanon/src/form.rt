@@ -6,7 +6,7 @@ ghost use Rattle.qterm.specs.Store.{HasSort, Extends, tree_at};
 ghost use Rattle.qterm.specs.declared.name.Sort.TheVariants.{Int};
 ghost use Rattle.qlin.specs.Form.{form, term, if_in_range};
 ghost use Rattle.qlin.specs.Lin.{form_at, IsForm};
-ghost use Rattle.qcanon.specs.Answer.{IsOwn, Answers};
+ghost use Rattle.qnegation.specs.Answer.{IsOwn, Answers};
 ghost use Rattle.qcanon.specs.Sums.{GivesForm, IsNarrow};
 
 use qcanon_laws::is_linear;

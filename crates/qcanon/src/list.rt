@@ -11,9 +11,11 @@ ghost use Rattle.qlin.specs.Junction.{members};
 ghost use Rattle.qlin.specs.CanonList.{canon_list, spread, tidied};
 ghost use Rattle.qcanon.specs.Walk.{NamesFault};
 ghost use Rattle.qcanon.specs.List.{IsFirstFalse};
+ghost use Rattle.qcanon.specs.Chain.{AreForms};
 
 use crate::error::CanonError;
-use crate::walk::{Forms, first_fault, ids_of};
+use crate::forms::Forms;
+use crate::walk::{first_fault, ids_of};
 use indexmap::IndexSet;
 use qterm::{Store, Term, TermId, TermIds};
 use qwalk::fold_all;
@@ -32,9 +34,28 @@ pub fn canon_list(alloc: Global, store: &mut Store, list: &[TermId]) -> Result<T
     ensures too_wide { IfErr result (NamesFault store.new (canon_list (trees_of store.old list.now))) }
     ensures extends { Extends store.old store.new }
 {
-    store.is_lawful();
     let mut forms = Forms::new(alloc);
-    let answers = fold_all(alloc, store, &mut forms, list)?;
+    canon_list_with(alloc, store, &mut forms, list)
+}
+
+/// The canonical list of formulas, with a table that the caller keeps over calls: no subterm that it knows is walked again.
+pub fn canon_list_with(
+    alloc: Global,
+    store: &mut Store,
+    forms: &mut Forms,
+    list: &[TermId],
+) -> Result<TermIds, CanonError>
+    requires has { All (Has store.old) list.now }
+    requires forms { AreForms store.old forms.old }
+    ensures has { IfOk result (λ ids. All (Has store.new) ids) }
+    ensures listed { IfOk result (λ ids. canon_list (trees_of store.old list.now) ≡ Ok (trees_of store.new ids)) }
+    ensures formulas { All (HasSort Bool store.old) list.now → IfOk result (λ ids. All (HasSort Bool store.new) ids) }
+    ensures too_wide { IfErr result (NamesFault store.new (canon_list (trees_of store.old list.now))) }
+    ensures forms { AreForms store.new forms.new }
+    ensures extends { Extends store.old store.new }
+{
+    store.is_lawful();
+    let answers = fold_all(alloc, store, forms, list)?;
     let outs = forms.settle_all(store, answers.as_slice())?;
     if let Some(term) = first_fault(outs.as_slice()) {
         return Err(CanonError::TooWide { term });

@@ -7,7 +7,7 @@ ghost use Rattle.qlin.specs.Form.{zero_form};
 ghost use Rattle.qlin.specs.Linear.{sum_onto, sum_of};
 ghost use Rattle.qlin.specs.Lin.{form_at, IsForm};
 ghost use Rattle.qlin.specs.Merge.{AreParts};
-ghost use Rattle.qcanon.specs.Answer.{IsOwn, Answers};
+ghost use Rattle.qnegation.specs.Answer.{IsOwn, Answers};
 ghost use Rattle.qcanon.specs.Sums.{GivesForm, AreNumbers, IsPartAdded, ArePartsAdded, IsFormAdded, form_of, number_in, parts_of};
 
 use crate::form::{read, write};

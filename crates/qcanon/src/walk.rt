@@ -1,33 +1,32 @@
 //! The canonical form of a term, by a walk that asks each distinct subterm once, its children before it.
-ghost use Rattle.std.specs.Prelude.{◌≡◌, List, map, All, IfOk, IfErr, None, Some};
+ghost use Rattle.std.specs.Prelude.{◌≡◌, map, All, IfOk, IfErr, None, Some};
 ghost use Rattle.std.specs.List.{AllZip};
-ghost use Rattle.qterm.specs.Tree.{Tree, sort_of};
+ghost use Rattle.qterm.specs.Tree.{sort_of};
 ghost use Rattle.qterm.specs.Store.{Has, HasSort, Fits, Extends, tree_at, trees_at, grow};
 ghost use Rattle.qterm.specs.declared.name.Sort.TheVariants.{Bool};
 ghost use Rattle.qterm.specs.Kids.{kids, listed, ids};
 ghost use Rattle.qlin.specs.Canon.{canon, at};
 ghost use Rattle.qlin.specs.Junction.{junction};
-ghost use Rattle.qcanon.specs.Answer.{IsOwn, Answers};
+ghost use Rattle.qnegation.specs.Answer.{IsOwn, Answers};
 ghost use Rattle.qcanon.specs.Walk.{over, IsFound, id_of, first_fault, answer_of, NamesFault};
-ghost use Rattle.qcanon.specs.Chain.{IsSound, IsAnswer, Links, AreReady};
-ghost use Rattle.qcanon.specs.Negation.{AreNegations};
+ghost use Rattle.qcanon.specs.Chain.{IsAnswer, AreForms};
+ghost use Rattle.qnegation.specs.Negation.{AreNegations};
 
 use crate::atom::{at_most, equal, number, scale};
-use crate::chain::{Answer, Load, Settled, connective, join, link, link_all};
+use crate::chain::{Answer, Outcome, connective, join};
 use crate::error::CanonError;
-use crate::iff::iff;
-use crate::ite::ite;
-use crate::junction::junction;
-use crate::negation::{Negations, negate};
+use crate::forms::Forms;
 use crate::sum::sum;
+use qnegation::{Negations, canonical_iff, canonical_ite, canonical_junction, negate};
 use qterm::{Store, Term, TermId};
 use qwalk::{Fold, fold_terms};
 use std::alloc::{AllocError, Global};
 
-/// The canonical term. Each distinct subterm is asked once, and the levels of a chain of And or Or are joined together.
+/// The canonical term.
 ///
 /// All children are taken, also those of a branch that is folded away. Where a number leaves the range of the canonical form,
-/// `TooWide` has the first such subterm in postorder.
+/// `TooWide` has the first such subterm in postorder. Each distinct subterm is asked once, and the levels of a chain of And or
+/// Or are joined together.
 pub fn canon(alloc: Global, store: &mut Store, id: TermId) -> Result<TermId, CanonError>
     requires has { Has store.old id }
     ensures canonical { IfOk result (λ c. Has store.new c × (canon (tree_at store.old id) ≡ Ok (tree_at store.new c))) }
@@ -35,9 +34,27 @@ pub fn canon(alloc: Global, store: &mut Store, id: TermId) -> Result<TermId, Can
     ensures too_wide { IfErr result (NamesFault store.new (canon (tree_at store.old id))) }
     ensures extends { Extends store.old store.new }
 {
-    store.is_lawful();
     let mut forms = Forms::new(alloc);
-    let answer = fold_terms(alloc, store, &mut forms, id)?;
+    canon_with(alloc, store, &mut forms, id)
+}
+
+/// The canonical term, with a table that the caller keeps over calls: no subterm that it knows is walked again.
+pub fn canon_with(
+    alloc: Global,
+    store: &mut Store,
+    forms: &mut Forms,
+    id: TermId,
+) -> Result<TermId, CanonError>
+    requires has { Has store.old id }
+    requires forms { AreForms store.old forms.old }
+    ensures canonical { IfOk result (λ c. Has store.new c × (canon (tree_at store.old id) ≡ Ok (tree_at store.new c))) }
+    ensures sort { IfOk result (λ c. sort_of (tree_at store.new c) ≡ sort_of (tree_at store.old id)) }
+    ensures too_wide { IfErr result (NamesFault store.new (canon (tree_at store.old id))) }
+    ensures forms { AreForms store.new forms.new }
+    ensures extends { Extends store.old store.new }
+{
+    store.is_lawful();
+    let answer = fold_terms(alloc, store, forms, id)?;
     let found = forms.settle(store, &answer)?;
     told(&found)
 }
@@ -52,80 +69,18 @@ fn told(found: &Outcome) -> Result<TermId, CanonError>
     }
 }
 
-/// The canonical term of a term, or its first subterm in postorder that has none.
-#[derive(Clone, Copy)]
-pub(crate) enum Outcome {
-    Canonical(TermId),
-    Faulty(TermId),
-}
-
-/// The walk's own state: the negations that it took, and the canonical forms of nested terms that it needed.
-#[derive(Drop)]
-pub(crate) struct Forms {
-    alloc: Global,
-    table: Negations,
-    settled: Settled,
-}
-
-impl Forms {
-    /// Nothing taken yet.
-    pub(crate) fn new(alloc: Global) -> Forms
-        ensures { (ts : List Tree) → AreReady ts result }
-    {
-        Forms {
-            alloc,
-            table: Negations::new(alloc),
-            settled: Settled::new(alloc),
-        }
-    }
-
-    /// The canonical term of what a root answered.
-    pub(crate) fn settle(
-        &mut self,
-        store: &mut Store,
-        answer: &Answer,
-    ) -> Result<Outcome, AllocError>
-        requires sound { IsSound store.old answer.now }
-        requires ready { AreReady store.old self.old }
-        ensures links { IfOk result (Links store.old store.new None answer.now) }
-        ensures extends { Extends store.old store.new }
-    {
-        let mut load = Load::new();
-        link(store, &mut self.settled, None, answer, &mut load)
-    }
-
-    /// The canonical terms of what several roots answered.
-    pub(crate) fn settle_all(
-        &mut self,
-        store: &mut Store,
-        answers: &[Answer],
-    ) -> Result<Vec<Outcome>, AllocError>
-        requires sound { All (IsSound store.old) answers.now }
-        requires ready { AreReady store.old self.old }
-        ensures links { IfOk result (λ v. AllZip (Links store.old store.new None) answers.now v.items) }
-        ensures ready { AreReady store.new self.new }
-        ensures extends { Extends store.old store.new }
-    {
-        let mut load = Load::new();
-        link_all(
-            self.alloc,
-            store,
-            &mut self.settled,
-            None,
-            answers,
-            &mut load,
-        )
-    }
-}
-
 impl Fold<Answer> for Forms {
     type Task = ();
 
     ghost task = { λ f. tt };
 
-    ghost ready = { λ f ts. AreReady ts f };
+    ghost ready = { λ f ts. AreForms ts f };
 
     ghost right = { λ f ts t a. IsAnswer ts t a };
+
+    fn known(&self, _store: &Store, id: TermId) -> Option<Answer> {
+        self.look(id)
+    }
 
     fn node(
         &mut self,
@@ -133,14 +88,42 @@ impl Fold<Answer> for Forms {
         id: TermId,
         answers: &[Answer],
     ) -> Result<Answer, AllocError> {
-        store.is_lawful();
-        match connective(store, id) {
-            Some(is_and) => join(self.alloc, store, &mut self.settled, is_and, id, answers),
-            None => {
-                let outs = self.settle_all(store, answers)?;
-                let found = find(self.alloc, store, &mut self.table, id, outs.as_slice())?;
-                Ok(Answer::Found(found))
-            }
+        let found = answer(store, self, id, answers)?;
+        self.note(id, &found)?;
+        Ok(found)
+    }
+}
+
+/// What a term answers, from what its children answer.
+fn answer(
+    store: &mut Store,
+    forms: &mut Forms,
+    id: TermId,
+    answers: &[Answer],
+) -> Result<Answer, AllocError>
+    requires has { Has store.old id }
+    requires forms { AreForms store.old forms.old }
+    requires children { AllZip (IsAnswer store.old) (listed (kids (tree_at store.old id))) answers.now }
+    ensures right { IfOk result (IsAnswer store.new (tree_at store.old id)) }
+    ensures forms { AreForms store.new forms.new }
+    ensures extends { Extends store.old store.new }
+{
+    store.is_lawful();
+    match connective(store, id) {
+        Some(is_and) => {
+            let found = join(forms.alloc, store, &mut forms.settled, is_and, id, answers)?;
+            Ok(found)
+        }
+        None => {
+            let outs = forms.settle_all(store, answers)?;
+            let found = find(
+                forms.alloc,
+                store,
+                &mut forms.negations,
+                id,
+                outs.as_slice(),
+            )?;
+            Ok(Answer::Found(found))
         }
     }
 }
@@ -215,7 +198,7 @@ fn term_over(alloc: Global, store: &Store, id: TermId, outs: &[Outcome]) -> Resu
 }
 
 /// The canonical form of a term whose children are canonical, or nothing where there is none.
-#[tactic(auto, using(crate::proofs::Negated::AreNegations_extends))]
+#[tactic(auto, using(qnegation::proofs::Negated::AreNegations_extends))]
 fn canon_over(
     alloc: Global,
     store: &mut Store,
@@ -238,11 +221,11 @@ fn canon_over(
         Term::Scale(by, a) => scale(alloc, store, by, a),
         Term::Le(a, b) => at_most(alloc, store, a, b),
         Term::Eq(a, b) => equal(alloc, store, a, b),
-        Term::Iff(a, b) => iff(alloc, store, table, a, b),
+        Term::Iff(a, b) => canonical_iff(alloc, store, table, a, b),
         Term::Not(a) => negate(alloc, store, table, a),
         Term::And(ids) => joined(alloc, store, true, ids.as_slice()),
         Term::Or(ids) => joined(alloc, store, false, ids.as_slice()),
-        Term::Ite(condition, a, b) => ite(alloc, store, table, condition, a, b),
+        Term::Ite(condition, a, b) => canonical_ite(alloc, store, table, condition, a, b),
     }
 }
 
@@ -267,6 +250,6 @@ fn joined(
     ensures answers { IfOk result (Answers store.new (Some (junction is_and (trees_at store.old ids.now)))) }
     ensures extends { Extends store.old store.new }
 {
-    let id = junction(alloc, store, is_and, ids)?;
+    let id = canonical_junction(alloc, store, is_and, ids)?;
     Ok(Some(id))
 }

@@ -1,7 +1,7 @@
 use Rattle.std.proofs.Common.{◌≡◌, All, reverse}
 use Rattle.qterm.specs.Store.{HasSort, trees_at}
 use Rattle.qterm.specs.declared.name.Sort.TheVariants.{Bool}
-use Rattle.qcanon.specs.Junction.{joined_lists}
+use Rattle.qnegation.specs.Junction.{joined_lists}
 use Rattle.qcanon.specs.Chain.{all_leaves, all_weight}
 use Rattle.qcanon.proofs.chain.leaves.Given as goal
 

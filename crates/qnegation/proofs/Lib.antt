@@ -1,0 +1,4 @@
+pub mod Junctions
+pub mod Pairs
+pub mod Negated
+pub mod Opposites

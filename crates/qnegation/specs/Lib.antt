@@ -1,0 +1,4 @@
+pub mod Answer
+pub mod Junction
+pub mod Negation
+pub mod Opposite
