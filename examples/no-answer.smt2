@@ -1,6 +1,7 @@
 ; A model can be shown only right after a check that answered sat: the first error ends the script, with status 1.
 ; => unsat
 ; => (error "no answer to show")
+; status 1
 (set-logic QF_LIA)
 (declare-const p Bool)
 (assert p)

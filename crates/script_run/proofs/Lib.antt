@@ -5,6 +5,7 @@ pub mod Searching
 pub mod Meaning
 pub mod TextLines
 pub mod Leaving
+pub mod Lefts
 pub mod Sounds
 pub mod Reaching
 pub mod Runs

@@ -1,7 +1,6 @@
 pub mod Truth
 pub mod Clauses
 pub mod Numbering
-pub mod Reserved
 pub mod Texts
 pub mod Session
 pub mod Output

@@ -1,5 +1,5 @@
 -- The text of a script, by its journal: each command's text in order, and the line of the first fault.
-use Rattle.std.specs.Prelude.{◌≡◌, ℕ, true, List, [], ◌∷◌, ◌++◌, Option, None, Some, Result, Ok, Err}
+use Rattle.std.specs.Prelude.{◌≡◌, ℕ, true, codes, List, [], ◌∷◌, ◌++◌, Option, None, Some, Result, Ok, Err}
 use Rattle.std.specs.Io.KnownBytes.{Appends}
 use Rattle.sexp_read.specs.Outside.{AppendsFront}
 use Rattle.qterm.specs.Tree.{Tree}
@@ -13,7 +13,6 @@ use Rattle.script_run.specs.declared.answer.Answer.TheVariants.{Sat, Unsat, Unkn
 use Rattle.script_run.specs.declared.answer.Why.TheVariants as why
 use Rattle.script_run.specs.declared.session.Stop.{Stop}
 use Rattle.script_run.specs.declared.session.Stop.TheVariants.{Memory, Fault, WriteFault}
-use Rattle.script_run.specs.declared.texts.TheConstants as line
 use Rattle.script_run.specs.Texts.{model_text}
 use Rattle.script_run.specs.Truth.{all_true, valuation_of, IsUnsat}
 use Rattle.script_run.specs.Session.{RecordTree, SessionTree, IsRecord, answer_line, passed, declared, asserted, checked, no_answer}
@@ -23,9 +22,9 @@ abbrev pub start : SessionTree
 start = record { names = []; asserts = []; checks = 0; shown = None }
 
 abbrev pub what_line : What → List ℕ
-what_line NotYet = line.NOT_YET.now
-what_line NoAnswer = line.NO_ANSWER.now
-what_line TooLong = line.TOO_LONG.now
+what_line NotYet = codes "(error \"not supported yet\")\n"
+what_line NoAnswer = codes "(error \"no answer to show\")\n"
+what_line TooLong = codes "(error \"script too long\")\n"
 
 -- the line of a fault of these bytes, if there is one
 unfoldable pub fault_line : List ℕ → Option ScriptError → List ℕ

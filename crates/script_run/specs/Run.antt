@@ -1,16 +1,15 @@
 -- How a run ends, and what it has then written.
-use Rattle.std.specs.Prelude.{◌≡◌, ◌≤◌, ℕ, Bool, false, if◌then◌else◌, nat_lt, List, [], ◌∷◌, length, Option, None, Some, IfSome}
+use Rattle.std.specs.Prelude.{◌≡◌, ◌≤◌, ℕ, Bool, false, if◌then◌else◌, nat_lt, codes, drop, ◌+◌, List, [], ◌∷◌, length, Option, None, Some, IfSome}
 use Rattle.std.specs.Str.{bytes_eq}
 use Rattle.std.specs.Io.KnownBytes.{Appends, Keeps}
-use Rattle.sexp_read.specs.Outside.{AppendsFront, IsFlushed, Rose}
+use Rattle.sexp_read.specs.Outside.{AppendsFront, IsFlushed, Rose, TakesFront}
 use Rattle.smt_script.specs.declared.script.ScriptError.{ScriptError}
 use Rattle.smt_script.specs.declared.script.What.TheVariants.{TooLong}
 use Rattle.smt_script.specs.Command.{ScriptTree}
 use Rattle.smt_script.specs.Script.{script_of}
 use Rattle.script_run.specs.declared.top.Ended.{Ended}
 use Rattle.script_run.specs.declared.top.Ended.TheVariants as e
-use Rattle.script_run.specs.declared.top.TheConstants.{MOST, RUN}
-use Rattle.script_run.specs.declared.texts.TheConstants.{USAGE}
+use Rattle.script_run.specs.declared.top.TheConstants.{MOST}
 use Rattle.script_run.specs.Session.{RecordTree}
 use Rattle.script_run.specs.Output.{End, over, start, output, end_of, AreRecords}
 
@@ -73,13 +72,30 @@ RanFrom left journal old new flushed e.WriteFault = (bytes : List ℕ) × RanWit
 -- whether the words are the one word `run`
 abbrev pub is_run : List (List ℕ) → Bool
 is_run [] = false
-is_run (word ∷ []) = bytes_eq word RUN.now
+is_run (word ∷ []) = bytes_eq word (codes "run")
 is_run (word ∷ next ∷ more) = false
+
+-- what is left of a source that was read: nothing, or what is behind one byte more than a script may have
+abbrev pub ReadWhole : Option (List ℕ) → Option (List ℕ) → Type 0
+ReadWhole old new = IfSome old (λ all. new ≡ Some (drop (MOST + 1) all))
+
+-- What a run of a script has left of its source. Where memory was wanting or a read failed, a front may be taken.
+abbrev pub TakesScript : Option (List ℕ) → Option (List ℕ) → Ended → Type 0
+TakesScript old new e.Done = ReadWhole old new
+TakesScript old new e.Fault = ReadWhole old new
+TakesScript old new e.WriteFault = ReadWhole old new
+TakesScript old new e.Memory = TakesFront MOST old new
+TakesScript old new e.ReadFault = TakesFront MOST old new
+TakesScript old new e.Usage = ⊥
+
+-- the usage line
+abbrev pub usage_line : List ℕ
+usage_line = codes "usage: tacsmt run\n"
 
 -- what a run with other words writes
 abbrev pub Misused : Option (List ℕ) → Option (List ℕ) → Option ℕ → Ended → Type 0
-Misused old new flushed e.Usage = Wrote USAGE.now old new flushed
-Misused old new flushed e.WriteFault = AppendsFront old new USAGE.now
+Misused old new flushed e.Usage = Wrote usage_line old new flushed
+Misused old new flushed e.WriteFault = AppendsFront old new usage_line
 Misused old new flushed e.Done = ⊥
 Misused old new flushed e.Fault = ⊥
 Misused old new flushed e.Memory = ⊥

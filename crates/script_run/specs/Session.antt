@@ -1,5 +1,5 @@
 -- Sessions, and what each command does to one and writes. Contracts see assertions as trees, not as ids of a store.
-use Rattle.std.specs.Prelude.{◌≡◌, ℕ, ◌+◌, ◌≤◌, true, List, [], ◌∷◌, ◌++◌, map, All, Option, None, Some, Result, Ok, Err, IsErrOf}
+use Rattle.std.specs.Prelude.{◌≡◌, ℕ, ◌+◌, ◌≤◌, true, List, [], ◌∷◌, ◌++◌, map, All, codes, Option, None, Some, Result, Ok, Err, IsErrOf}
 use Rattle.std.specs.Io.KnownBytes.{Appends, Keeps}
 use Rattle.sexp_read.specs.Outside.{AppendsFront, Rose}
 use Rattle.qterm.specs.declared.name.Name.{Name}
@@ -17,7 +17,6 @@ use Rattle.script_run.specs.declared.answer.CheckRecord.{CheckRecord}
 use Rattle.script_run.specs.declared.session.Session.{Session}
 use Rattle.script_run.specs.declared.session.Stop.{Stop}
 use Rattle.script_run.specs.declared.session.Stop.TheVariants.{Memory, Fault, WriteFault}
-use Rattle.script_run.specs.declared.texts.TheConstants.{SAT, UNSAT, UNKNOWN}
 use Rattle.script_run.specs.Numbering.{AreDistinct}
 use Rattle.script_run.specs.Texts.{model_text}
 use Rattle.script_run.specs.Truth.{all_true, valuation_of, IsUnsat}
@@ -41,6 +40,10 @@ record_tree ts r = record { number = r.number; asserts = trees_of ts r.asserts; 
 
 abbrev pub record_trees : List Tree → List CheckRecord → List RecordTree
 record_trees ts rs = map (record_tree ts) rs
+
+-- each assertion of a record is in the store
+abbrev pub HasRecord : List Tree → CheckRecord → Type 0
+HasRecord ts r = All (Has ts) r.asserts
 
 -- a session over the trees of a store
 abbrev pub session_tree : List Tree → Session → SessionTree
@@ -66,9 +69,9 @@ pub record IsRecord (s : SessionTree) (r : RecordTree) : Type 0 where
 
 -- the line of an answer
 unfoldable pub answer_line : Answer → List ℕ
-answer_line (Sat values) = SAT.now
-answer_line Unsat = UNSAT.now
-answer_line (Unknown why.Memory) = UNKNOWN.now
+answer_line (Sat values) = codes "sat\n"
+answer_line Unsat = codes "unsat\n"
+answer_line (Unknown why.Memory) = codes "unknown\n"
 
 -- the model of an answer that has one
 abbrev pub model_of : Answer → Option (List NameValue)

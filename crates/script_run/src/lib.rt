@@ -2,23 +2,17 @@
 //!
 //! The contract for the layer above: `run` reads a script from a source and writes its answers to a sink. What it
 //! writes is the text of the script's commands by its journal, and each answer of the journal is right. It stands on
-//! `smt_script` for the commands, on `qeval` for the meaning of terms, and on `sexp_read` for the outside.
+//! `smt_script` for the commands, on `qeval` for the meaning of terms, on `symbol_text` for names as they are written, and on `sexp_read` for the outside.
 #![tactic(auto)]
 
 mod answer;
 mod clauses;
 mod numbering;
-mod reserved;
 mod running;
 mod search;
 mod session;
-mod sure_run;
 mod texts;
 mod top;
 
 pub use answer::{Answer, CheckRecord, NameValue, Why};
-pub use sure_run::run_sure;
 pub use top::{Ended, Finished, run};
-
-#[cfg(test)]
-mod tests;

@@ -1,7 +1,7 @@
 //! The commands of a script, one after another.
 ghost use Rattle.std.specs.Prelude.{◌≡◌, [], All};
 ghost use Rattle.smt_script.specs.Command.{script_tree, IsIn, AreLawful};
-ghost use Rattle.script_run.specs.Session.{HasFault, record_trees, session_tree};
+ghost use Rattle.script_run.specs.Session.{HasFault, HasRecord, record_trees, session_tree};
 ghost use Rattle.script_run.specs.Output as spec;
 
 use crate::answer::CheckRecord;
@@ -26,6 +26,7 @@ pub fn do_commands<K: Sink>(
     requires lawful { AreLawful [] (script_tree store.now script.now).commands }
     requires empty { journal.old.items ≡ [] }
     ensures records { spec.AreRecords spec.start (script_tree store.now script.now).commands (record_trees store.now journal.new.items) }
+    ensures has { All (HasRecord store.now) journal.new.items }
     ensures went { spec.Went (script_tree store.now script.now).commands script.now.fault (record_trees store.now journal.new.items) (K.written out.old) (K.written out.new) result }
     ensures cause { HasFault (K.faults out.old) (K.faults out.new) result }
 {

@@ -1,11 +1,15 @@
 //! A session: what each command does and writes.
 //!
 //! Contracts see the assertions as the trees that their ids have in the store, which stays as it is here.
-ghost use Rattle.std.specs.Prelude.{◌≡◌, ◌≤◌, ◌+◌, ◌++◌, [], ◌∷◌, ℕ, vec_len, vec_capacity, IfOk, OnOk, OnErr, Err};
+ghost use Rattle.std.specs.Prelude.{◌≡◌, ◌⊎◌, ◌≤◌, ◌+◌, ◌++◌, [], ◌∷◌, ℕ, All, vec_len, vec_capacity, IfOk, OnOk, OnErr, Err};
+ghost use Rattle.std.specs.Io.KnownBytes.{Appends};
+ghost use Rattle.sexp_read.specs.Outside.{AppendsFront, HasCause};
 ghost use Rattle.qterm.specs.Store.{trees_of};
 ghost use Rattle.smt_script.specs.Command.{CheckSatUsing, placed_tree, command_tree, IsIn, IsLawfulCommand};
 ghost use Rattle.script_run.specs.Session as spec;
 ghost use Rattle.script_run.specs.declared.session.Stop.TheVariants.{Memory, WriteFault};
+ghost use Rattle.script_run.specs.declared.answer.Answer.TheVariants.{Sat, Unknown};
+ghost use Rattle.script_run.specs.declared.answer.Why.TheVariants as why;
 
 use crate::answer::{Answer, CheckRecord, NameValue, Why};
 use crate::search::search;
@@ -78,6 +82,7 @@ pub fn step<K: Sink>(
     requires within { IsIn store.now placed.now.command }
     ensures leaves { spec.Leaves (spec.session_tree store.now session.old) (placed_tree store.now placed.now) (spec.session_tree store.now session.new) (spec.record_trees store.now journal.old.items) (spec.record_trees store.now journal.new.items) (K.written out.old) (K.written out.new) result }
     ensures sound { OnOk result (spec.IsSound store.now session.new.names session.new.asserts) }
+    ensures has { All (spec.HasRecord store.now) journal.old.items → All (spec.HasRecord store.now) journal.new.items }
     ensures cause { spec.HasFault (K.faults out.old) (K.faults out.new) result }
 {
     match &placed.command {
@@ -112,63 +117,100 @@ fn check<K: Sink>(
     ensures leaves { (place : ℕ) → spec.Leaves (spec.session_tree store.now session.old) (record { command = CheckSatUsing; place = place }) (spec.session_tree store.now session.new) (spec.record_trees store.now journal.old.items) (spec.record_trees store.now journal.new.items) (K.written out.old) (K.written out.new) result }
     ensures names { session.new.names ≡ session.old.names }
     ensures asserts { session.new.asserts ≡ session.old.asserts }
+    ensures has { All (spec.HasRecord store.now) journal.old.items → All (spec.HasRecord store.now) journal.new.items }
     ensures cause { spec.HasFault (K.faults out.old) (K.faults out.new) result }
 {
     // The room for the record is taken before the check begins.
     journal.reserve(1)?;
-    let record = record_of(alloc, store, session)?;
-    let shown = model_of(alloc, &record.answer)?;
-    let line = line_of(&record.answer);
-    let number = record.number;
-    keep(journal, record);
-    session.checks = number;
-    session.shown = shown;
-    write_whole(out, line)?;
+    let made = record_of(alloc, store, session)?;
+    tell(session, journal, made, out)?;
     Ok(())
 }
 
-// The record of the next check.
-fn record_of(alloc: Global, store: &Store, session: &Session) -> Result<CheckRecord, Stop>
+// A record, with the model of its answer, which the session may show.
+#[derive(Drop)]
+struct Made {
+    record: CheckRecord,
+    shown: Option<Items<NameValue>>,
+}
+
+// The record of the next check. Nothing may fail once the assertions are decided.
+fn record_of(alloc: Global, store: &Store, session: &Session) -> Result<Made, Stop>
     requires sound { spec.IsSound store.now session.now.names session.now.asserts }
-    ensures record { IfOk result (λ r. spec.IsRecord (spec.session_tree store.now session.now) (spec.record_tree store.now r)) }
+    ensures record { IfOk result (λ made. spec.IsRecord (spec.session_tree store.now session.now) (spec.record_tree store.now made.record)) }
+    ensures has { IfOk result (λ made. spec.HasRecord store.now made.record) }
+    ensures shown { IfOk result (λ made. made.shown ≡ spec.model_of made.record.answer) }
     ensures err { OnErr result (result ≡ Err Stop.Memory) }
 {
     let asserts = Items::from_slice(alloc, session.asserts.as_slice())?;
     let Some(number) = session.checks.checked_add(1) else {
         return Err(Stop::Memory);
     };
-    let answer = decide(
+    let (answer, shown) = decide(
         alloc,
         store,
         session.names.as_slice(),
         session.asserts.as_slice(),
     );
-    Ok(CheckRecord {
-        number,
-        asserts,
-        answer,
+    Ok(Made {
+        record: CheckRecord {
+            number,
+            asserts,
+            answer,
+        },
+        shown,
     })
 }
 
-// The answer to the assertions, unknown only for want of memory.
-fn decide(alloc: Global, store: &Store, names: &[Name], asserts: &[TermId]) -> Answer
+// Keeps a record that was made, in the room that was taken for it, and writes its answer. Nothing but the sink can fail.
+fn tell<K: Sink>(
+    session: &mut Session,
+    journal: &mut Vec<CheckRecord>,
+    made: Made,
+    out: &mut K,
+) -> Result<(), Failed>
+    requires room { vec_len journal.old + 1 ≤ vec_capacity journal.old }
+    ensures kept { journal.new.items ≡ journal.old.items ++ made.record ∷ [] }
+    ensures session { session.new ≡ record session.old { checks = made.record.number; shown = made.shown } }
+    ensures whole { OnOk result (Appends (K.written out.old) (K.written out.new) (spec.answer_line made.record.answer)) }
+    ensures front { OnErr result (AppendsFront (K.written out.old) (K.written out.new) (spec.answer_line made.record.answer)) }
+    ensures cause { HasCause (K.faults out.old) (K.faults out.new) result }
+{
+    let Made { record, shown } = made;
+    let line = line_of(&record.answer);
+    session.checks = record.number;
+    session.shown = shown;
+    keep(journal, record);
+    write_whole(out, line)?;
+    Ok(())
+}
+
+// The answer to the assertions with its model, if it has one; unknown only for want of memory.
+fn decide(
+    alloc: Global,
+    store: &Store,
+    names: &[Name],
+    asserts: &[TermId],
+) -> (Answer, Option<Items<NameValue>>)
     requires sound { spec.IsSound store.now names.now asserts.now }
-    ensures { spec.IsAnswer names.now (trees_of store.now asserts.now) result }
+    ensures answer { spec.IsAnswer names.now (trees_of store.now asserts.now) result.0 }
+    ensures shown { result.1 ≡ spec.model_of result.0 }
 {
     match search(alloc, store, names, asserts) {
-        Ok(Some(values)) => Answer::Sat(values),
-        Ok(None) => Answer::Unsat,
-        Err(_) => Answer::Unknown(Why::Memory),
+        Ok(Some(values)) => with_copy(alloc, values),
+        Ok(None) => (Answer::Unsat, None),
+        Err(_) => (Answer::Unknown(Why::Memory), None),
     }
 }
 
-// The model of an answer that has one.
-fn model_of(alloc: Global, answer: &Answer) -> Result<Option<Items<NameValue>>, AllocError>
-    ensures { IfOk result (λ model. model ≡ spec.model_of answer.now) }
+// The answer with these values and a copy of them, or unknown where there is no memory for the copy.
+fn with_copy(alloc: Global, values: Items<NameValue>) -> (Answer, Option<Items<NameValue>>)
+    ensures answer { (result.0 ≡ Sat values) ⊎ (result.0 ≡ Unknown why.Memory) }
+    ensures shown { result.1 ≡ spec.model_of result.0 }
 {
-    match answer {
-        Answer::Sat(values) => Ok(Some(copy(alloc, values.as_slice())?)),
-        Answer::Unsat | Answer::Unknown(Why::Memory) => Ok(None),
+    match copy(alloc, values.as_slice()) {
+        Ok(copied) => (Answer::Sat(values), Some(copied)),
+        Err(_) => (Answer::Unknown(Why::Memory), None),
     }
 }
 

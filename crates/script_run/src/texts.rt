@@ -3,8 +3,8 @@ ghost use Rattle.std.specs.Prelude.{◌≡◌, ◌++◌, IfOk};
 ghost use Rattle.script_run.specs.Texts as spec;
 
 use crate::answer::NameValue;
-use crate::reserved::is_reserved;
 use std::alloc::{AllocError, Global};
+use symbol_text::push_symbol;
 
 /// The line of a check that answers sat.
 pub const SAT: &[u8] = b"sat\n";
@@ -27,33 +27,15 @@ pub const TOO_LONG: &[u8] = b"(error \"script too long\")\n";
 /// The line for wrong words.
 pub const USAGE: &[u8] = b"usage: tacsmt run\n";
 
-/// What a model begins with.
-pub const BEGIN: &[u8] = b"(\n";
-
-/// What stands before a name in a model.
-pub const DEFINE: &[u8] = b"  (define-fun ";
-
-/// The mark on both sides of a quoted symbol.
-pub const BAR: &[u8] = b"|";
-
-/// What stands behind a name that is true in a model.
-pub const TRUE: &[u8] = b" () Bool true)\n";
-
-/// What stands behind a name that is false in a model.
-pub const FALSE: &[u8] = b" () Bool false)\n";
-
-/// What a model ends with.
-pub const CLOSE: &[u8] = b")\n";
-
 /// The lines of a model: a definition for each name, in order.
 #[tactic(auto, unfolding(crate::specs::Texts::model_text))]
 pub fn model_text(alloc: Global, values: &[NameValue]) -> Result<Vec<u8>, AllocError>
     ensures { IfOk result (λ text. text.items ≡ spec.model_text values.now) }
 {
     let mut text = Vec::new(alloc);
-    text.extend_from_slice(BEGIN)?;
+    text.extend_from_slice(b"(\n")?;
     push_values(&mut text, values)?;
-    text.extend_from_slice(CLOSE)?;
+    text.extend_from_slice(b")\n")?;
     Ok(text)
 }
 
@@ -72,27 +54,19 @@ fn push_values(text: &mut Vec<u8>, values: &[NameValue]) -> Result<(), AllocErro
 fn push_value(text: &mut Vec<u8>, value: &NameValue) -> Result<(), AllocError>
     ensures { IfOk result (λ _. text.new.items ≡ text.old.items ++ spec.value_line value.now) }
 {
-    text.extend_from_slice(DEFINE)?;
+    text.extend_from_slice(b"  (define-fun ")?;
     push_symbol(text, value.name.text())?;
-    text.extend_from_slice(if value.value { TRUE } else { FALSE })?;
+    text.extend_from_slice(ending(value.value))?;
     Ok(())
 }
 
-// Adds a symbol, between bars where it is a reserved word.
-#[tactic(auto, unfolding(crate::specs::Texts::symbol_text))]
-fn push_symbol(text: &mut Vec<u8>, symbol: &[u8]) -> Result<(), AllocError>
-    ensures { IfOk result (λ _. text.new.items ≡ text.old.items ++ spec.symbol_text symbol.now) }
+// What stands behind a name with that value.
+fn ending(value: bool) -> &'static [u8]
+    ensures { result.now ≡ spec.ending value }
 {
-    let quote = quote_of(symbol);
-    text.extend_from_slice(quote)?;
-    text.extend_from_slice(symbol)?;
-    text.extend_from_slice(quote)?;
-    Ok(())
-}
-
-// The mark on both sides of a symbol.
-fn quote_of(symbol: &[u8]) -> &'static [u8]
-    ensures { result.now ≡ spec.quote symbol.now }
-{
-    if is_reserved(symbol) { BAR } else { &[] }
+    if value {
+        b" () Bool true)\n"
+    } else {
+        b" () Bool false)\n"
+    }
 }

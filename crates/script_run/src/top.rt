@@ -3,7 +3,7 @@ ghost use Rattle.std.specs.Prelude.{◌≡◌, [], true, false, ℕ, List, All, 
 ghost use Rattle.sexp_read.specs.Outside.{Rose};
 ghost use Rattle.smt_script.specs.Command.{script_tree, IsIn, AreLawful};
 ghost use Rattle.smt_script.specs.Script.{script_of};
-ghost use Rattle.script_run.specs.Session.{record_trees};
+ghost use Rattle.script_run.specs.Session.{record_trees, HasRecord};
 ghost use Rattle.script_run.specs.Output.{start, over, fault_line, AreRecords, IsRight};
 ghost use Rattle.script_run.specs.Run as spec;
 
@@ -66,11 +66,15 @@ pub fn run<R: Threads, S: Source, K: Sink>(
 ) -> Finished
     // With the word `run` the script is read and run.
     ensures run { spec.is_run (map (λ word. string_bytes word) words.now) ≡ true → (ended : Ended) × (result.status ≡ spec.code ended)
-        × spec.RanFrom (S.left script.old) (record_trees result.store result.journal.items) (K.written out.old) (K.written out.new) (K.flushed out.new) ended }
+        × spec.RanFrom (S.left script.old) (record_trees result.store result.journal.items) (K.written out.old) (K.written out.new) (K.flushed out.new) ended
+        × spec.TakesScript (S.left script.old) (S.left script.new) ended }
 
     // With other words nothing is read, and the usage line is written.
     ensures usage { spec.is_run (map (λ word. string_bytes word) words.now) ≡ false → (ended : Ended) × (result.status ≡ spec.code ended)
         × spec.Misused (K.written out.old) (K.written out.new) (K.flushed out.new) ended × (S.left script.new ≡ S.left script.old) × (result.journal.items ≡ []) }
+
+    // Each assertion of a record is in the store that is handed back.
+    ensures has { All (HasRecord result.store) result.journal.items }
 
     // Each sat has values that make all of its assertions true; at each unsat no valuation does.
     ensures right { All IsRight (record_trees result.store result.journal.items) }
@@ -140,7 +144,9 @@ fn run_script<S: Source, K: Sink>(
 ) -> Ended
     requires { journal.old.items ≡ [] }
     ensures right { All IsRight (record_trees store.new journal.new.items) }
+    ensures has { All (HasRecord store.new) journal.new.items }
     ensures ran { spec.RanFrom (S.left script.old) (record_trees store.new journal.new.items) (K.written out.old) (K.written out.new) (K.flushed out.new) result }
+    ensures left { spec.TakesScript (S.left script.old) (S.left script.new) result }
     ensures read { result ≡ Ended.ReadFault → Rose (S.faults script.old) (S.faults script.new) }
     ensures cause { spec.HasCauseOf (K.faults out.old) (K.faults out.new) result }
 {
@@ -169,6 +175,7 @@ fn run_bytes<K: Sink>(
     requires { journal.old.items ≡ [] }
     ensures records { AreRecords start (script_of bytes.now).commands (record_trees store.new journal.new.items) }
     ensures right { All IsRight (record_trees store.new journal.new.items) }
+    ensures has { All (HasRecord store.new) journal.new.items }
     ensures ran { spec.RanOver bytes.now (script_of bytes.now) (record_trees store.new journal.new.items) (K.written out.old) (K.written out.new) (K.flushed out.new) result }
     ensures cause { spec.HasCauseOf (K.faults out.old) (K.faults out.new) result }
 {
@@ -190,6 +197,7 @@ fn run_commands<K: Sink>(
     requires lawful { AreLawful [] (script_tree store.now script.now).commands }
     requires empty { journal.old.items ≡ [] }
     ensures records { AreRecords start (script_tree store.now script.now).commands (record_trees store.now journal.new.items) }
+    ensures has { All (HasRecord store.now) journal.new.items }
     ensures ran { (bytes : List ℕ) → spec.RanOver bytes (script_tree store.now script.now) (record_trees store.now journal.new.items) (K.written out.old) (K.written out.new) (K.flushed out.new) result }
     ensures cause { spec.HasCauseOf (K.faults out.old) (K.faults out.new) result }
 {

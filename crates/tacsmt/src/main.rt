@@ -16,7 +16,8 @@ fn main(rt: HostRuntime) -> ExitCode {
     ExitCode::from(status)
 }
 
-// The words of the command line, without the program's name; one that is no text counts as a wrong word.
+// The words of the command line, without the program's name; one that is no text counts as a wrong word. There are none at all
+// where there is no memory for one of them, so that no command is taken for another.
 fn words(rt: &HostRuntime) -> Vec<String> {
     let mut words = Vec::new(rt.alloc());
     let Ok(all) = env::args(rt) else {
@@ -24,7 +25,7 @@ fn words(rt: &HostRuntime) -> Vec<String> {
     };
     for word in all.skip(1) {
         if words.push(word).is_err() {
-            return words;
+            return Vec::new(rt.alloc());
         }
     }
     words

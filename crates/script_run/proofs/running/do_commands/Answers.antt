@@ -41,6 +41,7 @@ loop-placed-preserved g c =
     record {
       reached = reached_on _ _ _ _ _ _ _ _ _ _ _ _ reached so_far.2 leaves;
       lawful = lawful_rest (session_tree ts c.loop-placed.session) (session_tree ts c.step.new.session) leaves.0 leaves.1 (placed_tree ts c.placed-item.result) _ (rw split at c.loop-placed.invariant.lawful) leaves.2;
+      has = c.in_ok-step.ensures.has c.loop-placed.invariant.has;
       sound = c.in_ok-step.ensures.sound;
       later = grind arith;
     }

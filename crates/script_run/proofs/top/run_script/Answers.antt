@@ -2,6 +2,7 @@ use Rattle.std.proofs.Common.{◌≡◌, ◌≤◌, List, [], ℕ, length, refl,
 use Rattle.std.proofs.KnownBytes.{Consumes-whole}
 use Rattle.script_run.specs.declared.top.TheConstants.{MOST}
 use Rattle.script_run.proofs.Runs.{ran_none, ran_long, ran_short, past}
+use Rattle.script_run.proofs.Lefts.{read_to_end, read_past, ran_leaves}
 use Rattle.script_run.proofs.top.run_script.Goals as goal
 
 pub returns-in-Err-Memory-clause-ran : goal.returns-in-Err-Memory-clause-ran
@@ -23,3 +24,14 @@ returns-in-Ok-clause-ran g c =
 
 pub returns-in-Err-TooLong-clause-read : goal.returns-in-Err-TooLong-clause-read
 returns-in-Err-TooLong-clause-read g c = λ is. absurd (rw is at (c.finish.ensures.ran []))
+
+pub returns-in-Err-TooLong-clause-left : goal.returns-in-Err-TooLong-clause-left
+returns-in-Err-TooLong-clause-left g c =
+    let read = c.in-Err-TooLong.ensures in
+    ran_leaves c.finish.result _ _ _ _ _ _ _ (c.finish.ensures.ran []) (read_past _ _ ((rw c.in-Err-TooLong.field-0-is at read.past) refl)) read.front
+
+pub returns-in-Ok-clause-left : goal.returns-in-Ok-clause-left
+returns-in-Ok-clause-left g c =
+    let bytes = c.in-Ok.bytes.items in
+    let short : length bytes ≤ MOST = grind arith in
+    ran_leaves c.run_bytes.result _ _ _ _ _ _ _ c.run_bytes.ensures.ran (read_to_end _ _ bytes c.in-Ok.ensures.all c.in-Ok.ensures.end short) c.in-Ok.ensures.front

@@ -1,5 +1,7 @@
-use super::*;
-use sexp_read::{MemSink, MemSource};
+//! Scripts with the texts, statuses and journals that a run of them leaves.
+
+use script_run::{Answer, run};
+use sexp_read::{MemSink, MemSource, SureSink, SureSource};
 use std::alloc::Global;
 use std::test::Fail;
 use std::thread::Threads;
@@ -181,13 +183,15 @@ fn tells_that_a_script_is_too_long(rt: HostRuntime) -> Result<(), Fail> {
     Ok(())
 }
 
-// A run whose source and sink can't fail.
+// A run whose source and sink can't fail, for its journal.
 #[test]
 fn runs_for_the_journal_alone(rt: HostRuntime) -> Result<(), Fail> {
     let alloc = rt.alloc();
     let words = vec![in alloc; String::from_str(alloc, "run")?]?;
     let script = "(declare-const p Bool)(assert p)(check-sat-using sat)";
-    let finished = run_sure(&rt, alloc, &words, script.as_bytes().to_vec(alloc)?);
+    let mut source = SureSource::new(script.as_bytes().to_vec(alloc)?, 4096);
+    let mut out = SureSink::new();
+    let finished = run(&rt, alloc, &words, &mut source, &mut out);
     assert_eq!(rt; finished.status, 0);
     let [record] = finished.journal.as_slice() else {
         panic!(rt; "not one record");
