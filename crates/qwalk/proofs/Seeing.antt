@@ -1,12 +1,14 @@
 -- Taking in what is below roots, where what is below others is there already.
-use Rattle.std.proofs.Common.{◌≡◌, ℕ, suc, ◌<◌, ◌≤◌, inl, inr, List, [], ◌∷◌, ◌++◌, length, take, get_or, refl, sym, ap, subst, ◌∙◌, arith}
+use Rattle.std.proofs.Common.{◌≡◌, ℕ, suc, ◌<◌, ◌≤◌, ◌⊎◌, inl, inr, List, [], ◌∷◌, ◌++◌, length, take, get_or, refl, sym, ap, subst, ◌∙◌, arith}
 use Rattle.std.specs.List.{Contains, All}
 use Rattle.std.proofs.lemmas.List.{get_or_default}
 use Rattle.std.proofs.lemmas.List.Elements.{All-contains, Contains-append_left, Contains-append_right, Contains-append_cases, Contains-get_or}
 use Rattle.qterm.specs.Tree.{Tree}
-use Rattle.qterm.specs.Store.{tree_at, trees_of, Has, IsDistinct}
+use Rattle.qterm.specs.Store.{tree_at, trees_of, Has, IsDistinct, Extends}
 use Rattle.qterm.specs.Kids.{kids, listed}
 use Rattle.qterm.proofs.KidsLaws.{length-trees_of, trees_of-append}
+use Rattle.qterm.proofs.Fitting.{Has_extends}
+use Rattle.qterm.proofs.Extending.{trees_of_extends}
 use Rattle.qwalk.specs.Subterms.{subterms, subterms_of, HasSubterms}
 use Rattle.qwalk.specs.Count.{AreApart, HasAll, HasRoots, Takes, IsFound, IsClosed}
 use Rattle.qwalk.specs.Seen.{AreSubterms}
@@ -46,6 +48,20 @@ subterms_more (u ∷ us) vs s h =
     elim (Contains-append_cases (subterms u) (subterms_of us) s h) [
       | inl a ↦ Contains-append_left (subterms u) (subterms_of (us ++ vs)) s a
       | inr b ↦ Contains-append_right (subterms u) (subterms_of (us ++ vs)) s (subterms_more us vs s b)
+    ]
+
+subterms_behind : (us vs : List Tree) (s : Tree) → Contains (subterms_of vs) s → Contains (subterms_of (us ++ vs)) s
+unfolding subterms_of
+subterms_behind [] vs s h = h
+subterms_behind (u ∷ us) vs s h = Contains-append_right (subterms u) (subterms_of (us ++ vs)) s (subterms_behind us vs s h)
+
+subterms_apart : (us vs : List Tree) (s : Tree) → Contains (subterms_of (us ++ vs)) s → Contains (subterms_of us) s ⊎ Contains (subterms_of vs) s
+unfolding subterms_of
+subterms_apart [] vs s h = inr h
+subterms_apart (u ∷ us) vs s h =
+    elim (Contains-append_cases (subterms u) (subterms_of (us ++ vs)) s h) [
+      | inl a ↦ inl (Contains-append_left (subterms u) (subterms_of us) s a)
+      | inr b ↦ elim (subterms_apart us vs s b) [ inl c ↦ inl (Contains-append_right (subterms u) (subterms_of us) s c) | inr c ↦ inr c ]
     ]
 
 -- what was found and the roots are found
@@ -117,10 +133,6 @@ AreSubterms-none ts = record {
   apart = record { apart = λ i j p q e. absurd (omega (arith, p)) };
 }
 
--- no tree stands twice
-pub AreSubterms-different : (ts : List Tree) (roots ks : List ℕ) → IsDistinct ts → AreSubterms ts roots ks → IsDistinct (trees_of ts ks)
-AreSubterms-different ts roots ks d f = IsDistinct-trees_of ts ks d f.has f.apart
-
 -- each of the trees is a subterm of the roots
 pub AreSubterms-within : (ts : List Tree) (roots ks : List ℕ) → AreSubterms ts roots ks → (s : Tree) → Contains (trees_of ts ks) s → Contains (subterms_of (trees_of ts roots)) s
 AreSubterms-within ts roots ks f s h = let q = trees_of-Contains ts ks s h in subst (Contains (subterms_of (trees_of ts roots))) q.2 (f.within q.0 q.1)
@@ -128,6 +140,58 @@ AreSubterms-within ts roots ks f s h = let q = trees_of-Contains ts ks s h in su
 -- the numbers are ones of the store
 pub AreSubterms-has : (ts : List Tree) (roots ks : List ℕ) → AreSubterms ts roots ks → All (Has ts) ks
 AreSubterms-has ts roots ks f k d l = f.has (get_or ks k d) (Contains-get_or ks k d l)
+
+-- those of some terms are those of their own subterms: what is below each of them is there
+pub AreSubterms-whole : (ts : List Tree) (roots ks : List ℕ) → AreSubterms ts roots ks → AreSubterms ts ks ks
+AreSubterms-whole ts roots ks f = record {
+  has = f.has;
+  within = λ k h. subterms_of-itself (trees_of ts ks) (tree_at ts k) (Contains-trees_of ts ks k h);
+  complete = subterms_of-covered (trees_of ts ks) below (trees_of ts ks) (λ u h. h);
+  apart = f.apart;
+}
+  where
+    below : (t s : Tree) → Contains (trees_of ts ks) t → Contains (listed (kids t)) s → Contains (trees_of ts ks) s
+    below t s h k = f.complete s (subterms_of-child (trees_of ts roots) t s (AreSubterms-within ts roots ks f t h) k)
+
+-- what was there for some roots, and more roots
+pub AreSubterms-then : (ts : List Tree) (before old roots new : List ℕ) → AreSubterms ts before old → AreSubterms ts (old ++ roots) new → AreSubterms ts (before ++ roots) new
+AreSubterms-then ts before old roots new f g = record {
+  has = g.has;
+  within = λ k h.
+      let there = subst (λ us. Contains (subterms_of us) (tree_at ts k)) (trees_of-append ts old roots) (g.within k h) in
+      subst (λ us. Contains (subterms_of us) (tree_at ts k)) (sym (trees_of-append ts before roots))
+      (elim (subterms_apart (trees_of ts old) (trees_of ts roots) (tree_at ts k) there) [
+        | inl a ↦ subterms_more (trees_of ts before) (trees_of ts roots) (tree_at ts k) (back (tree_at ts k) a)
+        | inr b ↦ subterms_behind (trees_of ts before) (trees_of ts roots) (tree_at ts k) b
+      ]);
+  complete = λ s h.
+      g.complete s
+      (subst (λ us. Contains (subterms_of us) s) (sym (trees_of-append ts old roots))
+      (elim (subterms_apart (trees_of ts before) (trees_of ts roots) s (subst (λ us. Contains (subterms_of us) s) (trees_of-append ts before roots) h)) [
+        | inl a ↦ subterms_more (trees_of ts old) (trees_of ts roots) s (subterms_of-itself (trees_of ts old) s (f.complete s a))
+        | inr b ↦ subterms_behind (trees_of ts old) (trees_of ts roots) s b
+      ]));
+  apart = g.apart;
+}
+  where
+    back : (s : Tree) → Contains (subterms_of (trees_of ts old)) s → Contains (subterms_of (trees_of ts before)) s
+    back = subterms_of-covered (subterms_of (trees_of ts before)) (λ t s h k. subterms_of-child (trees_of ts before) t s h k) (trees_of ts old) (λ u h. AreSubterms-within ts before old f u h)
+
+-- they stay as the store grows
+pub AreSubterms_extends : (ts us : List Tree) (roots ks : List ℕ) → Extends ts us → All (Has ts) roots → AreSubterms ts roots ks → AreSubterms us roots ks
+AreSubterms_extends ts us roots ks e r f = record {
+  has = λ k h. Has_extends ts us k e (f.has k h);
+  within = λ k h. subst (λ t. Contains (subterms_of (trees_of us roots)) t) (sym (e.same k (f.has k h))) (subst (λ vs. Contains (subterms_of vs) (tree_at ts k)) (sym same) (f.within k h));
+  complete = λ s h. subst (λ vs. Contains vs s) (sym (trees_of_extends ts us ks e (AreSubterms-has ts roots ks f))) (f.complete s (subst (λ vs. Contains (subterms_of vs) s) same h));
+  apart = f.apart;
+}
+  where
+    same : trees_of us roots ≡ trees_of ts roots
+    same = trees_of_extends ts us roots e r
+
+-- no tree stands twice
+pub AreSubterms-different : (ts : List Tree) (roots ks : List ℕ) → IsDistinct ts → AreSubterms ts roots ks → IsDistinct (trees_of ts ks)
+AreSubterms-different ts roots ks d f = IsDistinct-trees_of ts ks d f.has f.apart
 
 -- there are as many as distinct subterms
 pub AreSubterms-count : (ts : List Tree) (roots ks : List ℕ) (n : ℕ) → IsDistinct ts → AreSubterms ts roots ks → n ≡ length ks → HasSubterms (trees_of ts roots) n

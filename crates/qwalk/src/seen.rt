@@ -1,5 +1,5 @@
 //! The distinct subterms of terms.
-ghost use Rattle.std.specs.Prelude.{◌≡◌, ◌<◌, ◌≤◌, ◌↔◌, ◌++◌, ℕ, List, [], All, Contains, length, take, IsTrue, IfOk, IfSome, IfNone, OnOk};
+ghost use Rattle.std.specs.Prelude.{◌≡◌, ◌<◌, ◌≤◌, ◌↔◌, ◌++◌, ℕ, [], All, Contains, length, take, IsTrue, IfOk, IfSome, IfNone, OnOk};
 ghost use Rattle.qterm.specs.Store.{Has, trees_of};
 ghost use Rattle.qwalk.specs.Subterms.{HasSubterms, HasMoreSubterms};
 ghost use Rattle.qwalk.specs.Seen.{AreSubterms};
@@ -34,15 +34,14 @@ impl Seen {
         }
     }
 
-    /// Takes in the ids of terms and of all their subterms, where they aren't there; `before` are the roots so far.
+    /// Takes in the ids of terms and of all their subterms, where they aren't there.
     ///
-    /// What is below an id that is there isn't visited again, so that the cost is in proportion to the terms that are new, with
-    /// their children.
+    /// What is below an id that is there is there too, and isn't visited again: the cost is in proportion to the terms that
+    /// are new, with their children.
     pub fn see(&mut self, store: &Store, roots: &[TermId]) -> Result<(), AllocError>
-        ghost before: { List ℕ }
         requires has { All (Has store.now) roots.now }
-        requires seen { AreSubterms store.now before self.old }
-        ensures seen { OnOk result (AreSubterms store.now (before ++ roots.now) self.new) }
+        requires whole { AreSubterms store.now self.old self.old }
+        ensures seen { OnOk result (AreSubterms store.now (self.old ++ roots.now) self.new) }
         ensures front { OnOk result (take (length self.old) self.new ≡ self.old) }
     {
         store.is_distinct();

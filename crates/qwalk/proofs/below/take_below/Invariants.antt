@@ -4,9 +4,9 @@ use Rattle.qwalk.proofs.Seeing.{IsFront}
 use Rattle.qwalk.proofs.below.take_below.Given as goal
 
 abbrev pub invariant-loop-next : goal.invariant-loop-next
-invariant-loop-next g l = record {
-  found : IsFound l.store (g.before ++ l.roots) l.found.keys;
-  roots : HasRoots l.store (g.before ++ l.roots) l.found.keys;
+invariant-loop-next l = record {
+  found : IsFound l.store (l.fn.found.keys ++ l.roots) l.found.keys;
+  roots : HasRoots l.store (l.fn.found.keys ++ l.roots) l.found.keys;
   closed : IsClosed l.store l.found.keys l.next;
   front : IsFront l.initial.found.keys l.found.keys;
   few : length l.found.keys ≤ l.most;
@@ -14,4 +14,4 @@ invariant-loop-next g l = record {
 }
 
 abbrev pub decreases-loop-next : goal.decreases-loop-next
-decreases-loop-next g l = l.most - l.next
+decreases-loop-next l = l.most - l.next
