@@ -16,8 +16,6 @@ mod read;
 mod read_probe;
 mod settings;
 mod strategy;
-#[cfg(test)]
-mod tests;
 mod words;
 mod write;
 
