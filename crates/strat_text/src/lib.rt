@@ -5,6 +5,7 @@
 #![tactic(auto)]
 
 mod allowed;
+mod copy;
 mod error;
 mod form;
 mod forms;
