@@ -27,5 +27,3 @@ pub use standard::{StdSink, StdSource};
 pub use sure::{SureSink, SureSource};
 pub use writing::write_whole;
 
-#[cfg(test)]
-mod tests;

@@ -15,5 +15,3 @@ pub use command::{Command, PlacedCommand};
 pub use reading::commands;
 pub use script::{Script, ScriptError, What};
 
-#[cfg(test)]
-mod tests;

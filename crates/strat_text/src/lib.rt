@@ -5,6 +5,7 @@
 #![tactic(auto)]
 
 mod allowed;
+mod copy;
 mod error;
 mod form;
 mod forms;
@@ -16,8 +17,6 @@ mod read;
 mod read_probe;
 mod settings;
 mod strategy;
-#[cfg(test)]
-mod tests;
 mod words;
 mod write;
 

@@ -1,7 +1,12 @@
-use super::*;
+//! Strategies as text: those that are read and written again, and those that are refused.
+
 use sexp_read::{Next, next_sexp};
 use std::alloc::{AllocError, Global};
 use std::test::Fail;
+use strat_text::{
+    ParamKey, ProbeExpr, ReducerName, StratError, Strategy, is_allowed, read_strategy,
+    write_strategy,
+};
 
 /// The strategy that a text is read as.
 fn read(alloc: Global, text: &[u8], names: Option<&[ReducerName]>) -> Result<Strategy, StratError> {

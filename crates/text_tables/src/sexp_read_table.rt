@@ -1,4 +1,10 @@
-use super::*;
+//! S-expressions, sources and sinks.
+
+use sexp_read::{
+    AtomKind, BadText, MemSink, MemSource, Next, ReadEnd, Sexp, Sink, Source, StdSink, StdSource,
+    SureSink, SureSource, atom_text, is_simple_symbol, line_column, next_sexp, read_all,
+    symbol_name, write_whole,
+};
 use std::io::{self, ErrorKind, Write};
 use std::test::Fail;
 
