@@ -1,5 +1,6 @@
 //! Strategies as text: those that are read and written again, and those that are refused.
 
+use indexmap::IndexSet;
 use sexp_read::{Next, next_sexp};
 use std::alloc::{AllocError, Global};
 use std::test::Fail;
@@ -404,10 +405,11 @@ fn written(alloc: Global, strategy: &Strategy) -> Result<Vec<u8>, StratError> {
     Ok(text)
 }
 
-/// What a text is written as once it is read.
+/// What a copy of the strategy of a text is written as.
 fn rewritten(alloc: Global, text: &[u8]) -> Result<Vec<u8>, StratError> {
     let strategy = read(alloc, text, None)?;
-    written(alloc, &strategy)
+    let copied = strategy.copy(alloc)?;
+    written(alloc, &copied)
 }
 
 /// Whether a text was written.
@@ -424,5 +426,16 @@ fn writes_what_is_read(rt: HostRuntime) -> Result<(), Fail> {
     for (text, _, _) in READ.iter() {
         assert!(rt; is_text(rewritten(alloc, *text), spelling(*text)));
     }
+    Ok(())
+}
+
+#[test]
+fn copies_probes_and_names(rt: HostRuntime) -> Result<(), Fail> {
+    let alloc = rt.alloc();
+    assert!(rt; matches!(ProbeExpr::Num(-5).copy(alloc)?, ProbeExpr::Num(-5)));
+    let name = ReducerName::new(alloc, b"sat")?;
+    let mut names = IndexSet::new(alloc);
+    names.insert(name.clone()?)?;
+    assert!(rt; names.contains(&name) && !names.contains(&ReducerName::new(alloc, b"skip")?));
     Ok(())
 }
