@@ -26,4 +26,3 @@ pub use sexp::{AtomKind, BadText, Next, Sexp, atom_text, symbol_name};
 pub use standard::{StdSink, StdSource};
 pub use sure::{SureSink, SureSource};
 pub use writing::write_whole;
-

@@ -14,4 +14,3 @@ mod words;
 pub use command::{Command, PlacedCommand};
 pub use reading::commands;
 pub use script::{Script, ScriptError, What};
-
