@@ -1,7 +1,9 @@
 //! Reverse unit propagation over the four clauses on two names, and the calls on literals and values.
 use crate::literals::{clauses, lit, lits};
-use rup::{Clause, Status, Valuation, Values};
-use rup::{clause_status, falsified, has, has_pair, item, negate_all, rup, same_lit, within};
+use rup::{
+    Clause, Status, Valuation, Values, clause_status, falsified, has, has_pair, item, negate_all,
+    rup, same_lit, within,
+};
 use std::test::Fail;
 
 /// The four clauses over two names, and a clause of one literal twice.
