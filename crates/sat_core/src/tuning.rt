@@ -9,4 +9,4 @@ pub const LAST_STEP: u64 = 1 << 60;
 pub const STEP_PARTS: u64 = 32;
 
 /// The search starts again after so many lemmas times a number of the Luby sequence.
-pub const RESTART_LEMMAS: u64 = 256;
+pub const RESTART_LEMMAS: u64 = 2048;
