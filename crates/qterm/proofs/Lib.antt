@@ -1,5 +1,6 @@
 pub mod Alls
 pub mod Members
+pub mod NameTests
 pub mod Numbers
 pub mod KidsLaws
 pub mod Fitting
