@@ -9,8 +9,6 @@ mod compute;
 mod error;
 mod evaluate;
 mod model;
-#[cfg(test)]
-mod tests;
 
 pub use bounds::{bounds_are_tightest, truth_is_within_bounds};
 pub use error::EvalError;

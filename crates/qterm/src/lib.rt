@@ -10,8 +10,6 @@ mod part;
 mod shared;
 mod store;
 mod term;
-#[cfg(test)]
-mod tests;
 
 pub use name::{Name, Sort, Text};
 pub use store::Store;
