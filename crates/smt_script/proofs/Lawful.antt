@@ -14,7 +14,8 @@ use Rattle.sexp_read.specs.Sexp.{next_at}
 use Rattle.smt_script.specs.declared.words.TheConstants.{SET_LOGIC, QF_LIA, DECLARE_CONST, BOOL, ASSERT, CHECK_SAT_USING, SAT, GET_MODEL, EXIT, NOT, OR}
 use Rattle.smt_script.specs.Clause.{Literal, joined, literals_in, IsClauseOver}
 use Rattle.smt_script.specs.Clause as clause
-use Rattle.smt_script.specs.Words.{is_theory_name, is_name_text}
+use Rattle.qterm.specs.Name.{is_name_text}
+use Rattle.smt_script.specs.Words.{is_theory_name}
 use Rattle.smt_script.specs.Command.{CommandTree, SetLogic, Declare, Assert, CheckSatUsing, GetModel, Exit, PlacedTree, ScriptTree, names_after, IsLawfulCommand, AreLawful}
 use Rattle.smt_script.specs.Script.{is_word, declared, literal, literal_named, negated, literal_in, literal_of, with_literal, literals_of, disjunction, or_items, clause_in, clause_of, assertion, bool_name, new_name, declaration, symbol, symbol_text, command_by, command_in, command_of, First, Ends, Goes, goes_to, first_of, end_of, names_of, before_rest, script_from, script_after, script_of}
 

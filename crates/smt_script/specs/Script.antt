@@ -16,7 +16,8 @@ use Rattle.qterm.specs.Tree.{Tree, Trees, Var, Not, Or, none, more}
 use Rattle.smt_script.specs.declared.script.ScriptError.{ScriptError}
 use Rattle.smt_script.specs.declared.script.What.TheVariants.{NotYet}
 use Rattle.smt_script.specs.declared.words.TheConstants.{SET_LOGIC, QF_LIA, DECLARE_CONST, BOOL, ASSERT, CHECK_SAT_USING, SAT, GET_MODEL, EXIT, NOT, OR}
-use Rattle.smt_script.specs.Words.{is_theory_name, is_name_text}
+use Rattle.qterm.specs.Name.{is_name_text}
+use Rattle.smt_script.specs.Words.{is_theory_name}
 use Rattle.smt_script.specs.Command.{CommandTree, SetLogic, Declare, Assert, CheckSatUsing, GetModel, Exit, PlacedTree, ScriptTree, names_after}
 
 -- the text of an atom of this kind, where it is a simple symbol

@@ -3,6 +3,7 @@ ghost use Rattle.std.specs.Prelude.{◌≡◌, IsTrue};
 ghost use Rattle.std.specs.Option.{option_copied};
 ghost use Rattle.std.specs.Str.{bytes_eq};
 ghost use Rattle.qterm.specs.Name.{IsNameText};
+ghost use Rattle.qterm.specs.Name as names;
 ghost use Rattle.sexp_read.specs.Atoms.{text_at as text_between};
 ghost use Rattle.smt_script.specs.Script as spec;
 ghost use Rattle.smt_script.specs.Words as words;
@@ -106,7 +107,7 @@ pub(crate) fn is_theory_name(text: &[u8]) -> bool
 
 /// Whether a name may have this text.
 pub(crate) fn is_name_text(text: &[u8]) -> bool
-    ensures test { result ≡ words.is_name_text text.now }
+    ensures test { result ≡ names.is_name_text text.now }
     ensures allowed { IsTrue result → IsNameText text.now }
 {
     Name::allows(text)

@@ -1,4 +1,5 @@
-use Rattle.smt_script.proofs.Texts.{text_decides, same_test}
+use Rattle.qterm.proofs.NameTests.{text_decides}
+use Rattle.smt_script.proofs.Texts.{same_test}
 use Rattle.smt_script.proofs.words.is_name_text.Goals as goal
 
 pub returns : goal.returns
