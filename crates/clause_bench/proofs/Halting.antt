@@ -1,5 +1,5 @@
 -- A watch that goes on at each lemma.
-use Rattle.std.proofs.Common.{◌≡◌, Bool, true, false, List, [], ◌∷◌}
+use Rattle.std.proofs.Common.{◌≡◌, true, List, [], ◌∷◌}
 use Rattle.rup.specs.declared.literal.Lit.{Lit}
 use Rattle.sat_core.specs.Calls.{HeardUntil}
 
