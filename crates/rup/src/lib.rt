@@ -8,11 +8,9 @@
 mod clause;
 mod literal;
 mod propagation;
-#[cfg(test)]
-mod tests;
 mod values;
 
 pub use clause::Clause;
 pub use literal::{Lit, has, has_pair, negate_all, same_lit, within};
-pub use propagation::{Status, clause_status, item, rup};
+pub use propagation::{Status, clause_status, falsified, item, rup};
 pub use values::{Valuation, Values};
