@@ -11,9 +11,7 @@ mod formulas;
 mod propagation;
 mod replace;
 
-
+pub use depth::{Depths, is_shallow};
+pub use formulas::{define, part, rewrite};
 pub use propagation::propagate;
 pub use replace::substitute;
-pub use formulas::{define, part, rewrite};
-pub use depth::{Depths, is_shallow};
-
