@@ -2,8 +2,6 @@
 #![tactic(auto)]
 
 #[cfg(test)]
-mod canonical;
-#[cfg(test)]
 mod forms;
 #[cfg(test)]
 mod made;

@@ -1,7 +1,7 @@
 use Rattle.std.proofs.Common.{All}
 use Rattle.qterm.specs.Store.{Has}
 use Rattle.qcanon.specs.Chain.{AreForms}
-use Rattle.term_tables.proofs.canonical.table_agrees.Given as goal
+use Rattle.canon_tables.proofs.canonical.table_agrees.Given as goal
 
 abbrev pub invariant-loop-at : goal.invariant-loop-at
 invariant-loop-at l = record {
