@@ -38,9 +38,70 @@ pub(crate) fn put_name(
     put(store, Term::Var(name))
 }
 
+/// A term without a list or a name.
+#[derive(Clone, Copy)]
+pub(crate) enum Plain {
+    True,
+    False,
+    Num(i128),
+    Scale(i128, TermId),
+    Le(TermId, TermId),
+    Eq(TermId, TermId),
+    Iff(TermId, TermId),
+    Not(TermId),
+    Ite(TermId, TermId, TermId),
+}
+
+impl Plain {
+    /// The term.
+    pub(crate) fn term(self) -> Term {
+        match self {
+            Plain::True => Term::True,
+            Plain::False => Term::False,
+            Plain::Num(number) => Term::Num(number),
+            Plain::Scale(number, of) => Term::Scale(number, of),
+            Plain::Le(left, right) => Term::Le(left, right),
+            Plain::Eq(left, right) => Term::Eq(left, right),
+            Plain::Iff(left, right) => Term::Iff(left, right),
+            Plain::Not(of) => Term::Not(of),
+            Plain::Ite(condition, yes, no) => Term::Ite(condition, yes, no),
+        }
+    }
+}
+
 /// A list of ids.
 pub(crate) fn list(alloc: Global, ids: &[TermId]) -> Result<TermIds, AllocError> {
     Ok(TermIds::from_vec(Vec::from_slice(alloc, ids)?))
+}
+
+/// The id of a sum.
+pub(crate) fn put_sum(
+    alloc: Global,
+    store: &mut Store,
+    ids: &[TermId],
+) -> Result<TermId, AllocError> {
+    let all = list(alloc, ids)?;
+    put(store, Term::Sum(all))
+}
+
+/// The id of a conjunction.
+pub(crate) fn put_and(
+    alloc: Global,
+    store: &mut Store,
+    ids: &[TermId],
+) -> Result<TermId, AllocError> {
+    let all = list(alloc, ids)?;
+    put(store, Term::And(all))
+}
+
+/// The id of a disjunction.
+pub(crate) fn put_or(
+    alloc: Global,
+    store: &mut Store,
+    ids: &[TermId],
+) -> Result<TermId, AllocError> {
+    let all = list(alloc, ids)?;
+    put(store, Term::Or(all))
 }
 
 /// Whether all of the ids are ones of the store.

@@ -1,5 +1,5 @@
 //! Rows of `qeval`: models, values of terms, and the first subterm that passes 128 bits.
-use crate::made::{list, named, put};
+use crate::made::{Plain, named, put, put_and, put_or, put_sum};
 use qeval::{EvalError, Model, Value, bounds_are_tightest, eval, truth_is_within_bounds};
 use qterm::{Sort, Store, Term, TermId};
 use std::alloc::{AllocError, Global};
@@ -43,13 +43,10 @@ fn models_keep_the_order_of_their_names(rt: HostRuntime) -> Result<(), Fail> {
 }
 
 /// The value of a term, or its first subterm that passes 128 bits.
-fn found(
-    alloc: Global,
-    store: &mut Store,
-    model: &Model,
-    term: &Term,
-) -> Result<Result<Value, TermId>, AllocError> {
-    let id = put(store, term.clone()?)?;
+type Found = Result<Value, TermId>;
+
+/// What is found for a term of the store.
+fn found(alloc: Global, store: &Store, id: TermId, model: &Model) -> Result<Found, AllocError> {
     if !store.has(id) {
         return Err(AllocError);
     }
@@ -60,11 +57,23 @@ fn found(
     }
 }
 
+/// The value that a model has for a name, and what is found for its term.
+fn found_for_name(
+    alloc: Global,
+    model: &Model,
+    text: &[u8],
+    sort: Sort,
+) -> Result<(Value, Found), AllocError> {
+    let mut store = Store::new(alloc);
+    let name = named(alloc, text, sort)?;
+    let value = model.get(&name);
+    let id = put(&mut store, Term::Var(name))?;
+    Ok((value, found(alloc, &store, id, model)?))
+}
+
 #[test]
 fn names_have_the_values_of_the_model(rt: HostRuntime) -> Result<(), Fail> {
-    let alloc = rt.alloc();
-    let model = three_names(alloc)?;
-    let mut store = Store::new(alloc);
+    let model = three_names(rt.alloc())?;
     let rows: [(&[u8], Sort, Value); 4] = [
         (b"x", Sort::Int, Value::Int(4)),
         (b"y", Sort::Int, Value::Int(2)),
@@ -72,67 +81,84 @@ fn names_have_the_values_of_the_model(rt: HostRuntime) -> Result<(), Fail> {
         (b"x", Sort::Bool, Value::Bool(false)),
     ];
     for (text, sort, want) in rows {
-        let name = named(alloc, text, sort)?;
-        assert_eq!(rt; model.get(&name), want);
-        assert_eq!(rt;
-            found(alloc, &mut store, &model, &Term::Var(name))?,
-            Ok(want)
-        );
+        assert!(rt; found_for_name(rt.alloc(), &model, text, sort)? == (want, Ok(want)));
     }
     Ok(())
 }
 
-/// Operators over the numbers -3 and 2, true and false, with their values.
-fn operators(minus: TermId, two: TermId, yes: TermId, no: TermId) -> [(Term, Value); 13] {
-    [
-        (Term::Num(-3), Value::Int(-3)),
-        (Term::Scale(-2, minus), Value::Int(6)),
-        (Term::Le(two, two), Value::Bool(true)),
-        (Term::Le(two, minus), Value::Bool(false)),
-        (Term::Eq(two, two), Value::Bool(true)),
-        (Term::Eq(minus, two), Value::Bool(false)),
-        (Term::True, Value::Bool(true)),
-        (Term::False, Value::Bool(false)),
-        (Term::Not(no), Value::Bool(true)),
-        (Term::Iff(no, no), Value::Bool(true)),
-        (Term::Iff(yes, no), Value::Bool(false)),
-        (Term::Ite(yes, minus, two), Value::Int(-3)),
-        (Term::Ite(no, yes, no), Value::Bool(false)),
-    ]
+/// What is found for a term without names.
+fn found_closed(alloc: Global, store: &Store, id: TermId) -> Result<Found, AllocError> {
+    let model = Model::new(alloc);
+    found(alloc, store, id, &model)
+}
+
+/// The numbers -3 and 2.
+fn numbers(store: &mut Store) -> Result<[TermId; 2], AllocError> {
+    Ok([put(store, Term::Num(-3))?, put(store, Term::Num(2))?])
+}
+
+/// True and false.
+fn truths(store: &mut Store) -> Result<[TermId; 2], AllocError> {
+    Ok([put(store, Term::True)?, put(store, Term::False)?])
+}
+
+/// Whether this is found for terms without names.
+fn are_found(
+    alloc: Global,
+    store: &mut Store,
+    rows: &[(Plain, Found)],
+) -> Result<bool, AllocError> {
+    for row in rows {
+        let id = put(store, row.0.term())?;
+        if found_closed(alloc, store, id)? != row.1 {
+            return Ok(false);
+        }
+    }
+    Ok(true)
 }
 
 #[test]
 fn operators_of_fixed_arity(rt: HostRuntime) -> Result<(), Fail> {
+    let mut store = Store::new(rt.alloc());
+    let [minus, two] = numbers(&mut store)?;
+    let [yes, no] = truths(&mut store)?;
+    let rows = [
+        (Plain::Num(-3), Ok(Value::Int(-3))),
+        (Plain::Scale(-2, minus), Ok(Value::Int(6))),
+        (Plain::Le(two, two), Ok(Value::Bool(true))),
+        (Plain::Le(two, minus), Ok(Value::Bool(false))),
+        (Plain::Eq(two, two), Ok(Value::Bool(true))),
+        (Plain::Eq(minus, two), Ok(Value::Bool(false))),
+        (Plain::True, Ok(Value::Bool(true))),
+        (Plain::False, Ok(Value::Bool(false))),
+        (Plain::Not(no), Ok(Value::Bool(true))),
+        (Plain::Iff(no, no), Ok(Value::Bool(true))),
+        (Plain::Iff(yes, no), Ok(Value::Bool(false))),
+        (Plain::Ite(yes, minus, two), Ok(Value::Int(-3))),
+        (Plain::Ite(no, yes, no), Ok(Value::Bool(false))),
+    ];
+    assert!(rt; are_found(rt.alloc(), &mut store, &rows)?);
+    Ok(())
+}
+
+#[test]
+fn sums(rt: HostRuntime) -> Result<(), Fail> {
     let alloc = rt.alloc();
     let mut store = Store::new(alloc);
-    let model = Model::new(alloc);
-    let minus = put(&mut store, Term::Num(-3))?;
-    let two = put(&mut store, Term::Num(2))?;
-    let yes = put(&mut store, Term::True)?;
-    let no = put(&mut store, Term::False)?;
-    for row in operators(minus, two, yes, no).as_slice() {
-        assert_eq!(rt; found(alloc, &mut store, &model, &row.0)?, Ok(row.1));
+    let [minus, two] = numbers(&mut store)?;
+    let rows: [(&[TermId], i128); 3] = [(&[], 0), (&[two], 2), (&[two, two, minus, two], 3)];
+    for (ids, want) in rows {
+        let sum = put_sum(alloc, &mut store, ids)?;
+        assert!(rt; found_closed(alloc, &store, sum)? == Ok(Value::Int(want)));
     }
     Ok(())
 }
 
 #[test]
-fn operators_over_lists(rt: HostRuntime) -> Result<(), Fail> {
+fn conjunctions_and_disjunctions(rt: HostRuntime) -> Result<(), Fail> {
     let alloc = rt.alloc();
     let mut store = Store::new(alloc);
-    let model = Model::new(alloc);
-    let minus = put(&mut store, Term::Num(-3))?;
-    let two = put(&mut store, Term::Num(2))?;
-    let yes = put(&mut store, Term::True)?;
-    let no = put(&mut store, Term::False)?;
-    let rows: [(&[TermId], i128); 3] = [(&[], 0), (&[two], 2), (&[two, two, minus, two], 3)];
-    for (ids, want) in rows {
-        let sum = Term::Sum(list(alloc, ids)?);
-        assert_eq!(rt;
-            found(alloc, &mut store, &model, &sum)?,
-            Ok(Value::Int(want))
-        );
-    }
+    let [yes, no] = truths(&mut store)?;
     let rows: [(&[TermId], bool, bool); 4] = [
         (&[], true, false),
         (&[yes, yes], true, true),
@@ -140,48 +166,40 @@ fn operators_over_lists(rt: HostRuntime) -> Result<(), Fail> {
         (&[no, no], false, false),
     ];
     for (ids, all, any) in rows {
-        let and = Term::And(list(alloc, ids)?);
-        assert_eq!(rt;
-            found(alloc, &mut store, &model, &and)?,
-            Ok(Value::Bool(all))
-        );
-        let or = Term::Or(list(alloc, ids)?);
-        assert_eq!(rt;
-            found(alloc, &mut store, &model, &or)?,
-            Ok(Value::Bool(any))
-        );
+        let and = put_and(alloc, &mut store, ids)?;
+        assert!(rt; found_closed(alloc, &store, and)? == Ok(Value::Bool(all)));
+        let or = put_or(alloc, &mut store, ids)?;
+        assert!(rt; found_closed(alloc, &store, or)? == Ok(Value::Bool(any)));
     }
     Ok(())
 }
 
-/// Terms over two wide ones, with the first of these that they have in postorder.
-fn wide(double: TermId, sum: TermId, yes: TermId, two: TermId) -> [(Term, TermId); 4] {
-    [
-        (Term::Le(sum, double), sum),
-        (Term::Eq(double, sum), double),
-        (Term::Ite(yes, two, double), double),
-        (Term::Ite(yes, two, sum), sum),
-    ]
+/// Twice 2^127 - 1, and the sums of 2^127 - 1 with 2 and then -3, and with -3 and then 2: only the last is within 128 bits in
+/// each of its beginnings.
+fn great(alloc: Global, store: &mut Store) -> Result<[TermId; 3], AllocError> {
+    let [minus, two] = numbers(store)?;
+    let most = put(store, Term::Num(i128::MAX))?;
+    let double = put(store, Term::Scale(2, most))?;
+    let wide = put_sum(alloc, store, &[most, two, minus])?;
+    let narrow = put_sum(alloc, store, &[most, minus, two])?;
+    Ok([double, wide, narrow])
 }
 
 #[test]
 fn the_first_wide_subterm_in_postorder_is_told(rt: HostRuntime) -> Result<(), Fail> {
-    let alloc = rt.alloc();
-    let mut store = Store::new(alloc);
-    let model = Model::new(alloc);
-    let minus = put(&mut store, Term::Num(-3))?;
-    let two = put(&mut store, Term::Num(2))?;
-    let yes = put(&mut store, Term::True)?;
-    let most = put(&mut store, Term::Num(i128::MAX))?;
-    let double = put(&mut store, Term::Scale(2, most))?;
-    let sum = put(&mut store, Term::Sum(list(alloc, &[most, two, minus])?))?;
-    for row in wide(double, sum, yes, two).as_slice() {
-        assert_eq!(rt; found(alloc, &mut store, &model, &row.0)?, Err(row.1));
-    }
-    let within = Term::Sum(list(alloc, &[most, minus, two])?);
-    assert_eq!(rt;
-        found(alloc, &mut store, &model, &within)?,
-        Ok(Value::Int(i128::MAX - 1))
-    );
+    let mut store = Store::new(rt.alloc());
+    let [double, wide, narrow] = great(rt.alloc(), &mut store)?;
+    let [yes, _] = truths(&mut store)?;
+    let rows = [
+        (Plain::Le(wide, double), Err(wide)),
+        (Plain::Eq(double, wide), Err(double)),
+        (Plain::Ite(yes, narrow, double), Err(double)),
+        (Plain::Ite(yes, narrow, wide), Err(wide)),
+        (
+            Plain::Ite(yes, narrow, narrow),
+            Ok(Value::Int(i128::MAX - 1)),
+        ),
+    ];
+    assert!(rt; are_found(rt.alloc(), &mut store, &rows)?);
     Ok(())
 }

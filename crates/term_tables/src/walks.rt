@@ -1,7 +1,8 @@
 //! Rows of `qwalk`: how often a walk asks, and the distinct subterms of terms.
+ghost use Rattle.std.specs.Prelude.{All};
 ghost use Rattle.qterm.specs.Store.{Has};
 
-use crate::made::{has_all, list, put};
+use crate::made::{has_all, put, put_and};
 use qterm::{Store, Term, TermId};
 use qwalk::{
     Fold, Scan, Seen, count_subterms, fold_all, fold_terms, scan_all, scan_terms, subterms,
@@ -58,7 +59,7 @@ impl Fold<u32> for Heights {
 fn formulas(alloc: Global, store: &mut Store) -> Result<[TermId; 4], AllocError> {
     let yes = put(store, Term::True)?;
     let no = put(store, Term::Not(yes))?;
-    let both = put(store, Term::And(list(alloc, &[yes, no])?))?;
+    let both = put_and(alloc, store, &[yes, no])?;
     let same = put(store, Term::Iff(both, no))?;
     Ok([yes, no, both, same])
 }
@@ -124,17 +125,25 @@ fn distinct_subterms_are_counted_up_to_the_limit(rt: HostRuntime) -> Result<(), 
     Ok(())
 }
 
+/// What is seen of some terms, and then of others.
+#[tactic(auto, using(crate::proofs::Seeing::seen_whole))]
+fn seen(alloc: Global, store: &Store, first: &[TermId], then: &[TermId]) -> Result<Seen, AllocError>
+    requires first_has { All (Has store.now) first.now }
+    requires then_has { All (Has store.now) then.now }
+{
+    let mut seen = subterms(alloc, store, first)?;
+    seen.see(store, then)?;
+    Ok(seen)
+}
+
 #[test]
 fn what_is_seen_stays_in_front(rt: HostRuntime) -> Result<(), Fail> {
     let alloc = rt.alloc();
     let mut store = Store::new(alloc);
     let [yes, no, both, same] = formulas(alloc, &mut store)?;
-    assert!(rt; store.has(no) && store.has(same));
-    let mut seen = Seen::new(alloc);
-    assert!(rt; seen.is_empty());
-    seen.see(&store, &[no])?;
-    assert!(rt; seen.ids() == [no, yes].as_slice());
-    seen.see(&store, &[same])?;
+    assert!(rt; Seen::new(alloc).is_empty());
+    assert!(rt; has_all(&store, &[no]) && has_all(&store, &[same]));
+    let mut seen = seen(alloc, &store, &[no], &[same])?;
     assert!(rt; seen.ids() == [no, yes, same, both].as_slice());
     seen.truncate(3);
     assert!(rt; seen.has(same) && !seen.has(both) && seen.len() == 3);
