@@ -1,8 +1,8 @@
 //! Rows of `qterm`: texts of names, sorts, ids, children, and what copies and layers of a store cost.
-use crate::made::{Plain, list, named, put, put_and, put_name, put_or, put_sum};
 use qterm::{Name, SUBTERMS, Sort, Store, Term, TermId};
 use std::alloc::{AllocError, Global};
 use std::test::Fail;
+use table_terms::{Plain, list, named, put, put_and, put_name, put_or, put_sum};
 
 #[test]
 fn names_have_a_text_that_a_quoted_symbol_can_hold(rt: HostRuntime) -> Result<(), Fail> {

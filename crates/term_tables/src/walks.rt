@@ -2,13 +2,13 @@
 ghost use Rattle.std.specs.Prelude.{All};
 ghost use Rattle.qterm.specs.Store.{Has};
 
-use crate::made::{has_all, put, put_and};
 use qterm::{Store, Term, TermId};
 use qwalk::{
     Fold, Scan, Seen, count_subterms, fold_all, fold_terms, scan_all, scan_terms, subterms,
 };
 use std::alloc::{AllocError, Global};
 use std::test::Fail;
+use table_terms::{has_all, put, put_and};
 
 /// The heights of terms, and how often one was asked for: a term without children has the height 0, and any other one
 /// more than the highest of its children.

@@ -4,7 +4,6 @@ ghost use Rattle.qterm.specs.Store.{HasSort};
 ghost use Rattle.qterm.specs.declared.name.Sort.TheVariants.{Int};
 ghost use Rattle.qlin.specs.Lin.{IsForm};
 
-use crate::made::{Plain, has_all, named, put, put_name, put_sum};
 use qlin::{
     Lin, LinError, compare, content_is_greatest, forms_stay, in_range, sort_terms,
     trees_are_ordered,
@@ -13,6 +12,7 @@ use qterm::{Name, Sort, Store, Term, TermId};
 use std::alloc::{AllocError, Global};
 use std::cmp::Ordering;
 use std::test::Fail;
+use table_terms::{Plain, has_all, named, put, put_name, put_sum};
 
 /// The numbers x and y. The store has y before x, whose text comes first.
 fn names(alloc: Global, store: &mut Store) -> Result<[TermId; 2], AllocError> {

@@ -1,9 +1,9 @@
 //! Rows of `qeval`: models, values of terms, and the first subterm that passes 128 bits.
-use crate::made::{Plain, named, put, put_and, put_or, put_sum};
 use qeval::{EvalError, Model, Value, bounds_are_tightest, eval, truth_is_within_bounds};
 use qterm::{Sort, Store, Term, TermId};
 use std::alloc::{AllocError, Global};
 use std::test::Fail;
+use table_terms::{Plain, named, put, put_and, put_or, put_sum};
 
 /// The model that has x, y and z in this order, where x was given a second value.
 fn three_names(alloc: Global) -> Result<Model, AllocError> {

@@ -23,4 +23,4 @@ name_linear ts i n s = subst IsLinear (sym s.is) (record { rising = (omega arith
 
 pub two_apart : (p q : ℤ × ℕ) → (p.1 ≡ q.1 → ⊥) → AreApart (p ∷ q ∷ [])
 unfolding IsDistinct
-two_apart p q h = ((ne_eqb p.1 q.1 h, tt), tt, tt)
+two_apart p q h = ((ne_eqb p.1 q.1 h, tt), (tt, tt))

@@ -6,7 +6,7 @@ use qterm::{Name, Sort, Store, Term, TermId, TermIds};
 use std::alloc::{AllocError, Global};
 
 /// The name with this text, if names may have it.
-pub(crate) fn named(alloc: Global, text: &[u8], sort: Sort) -> Result<Name, AllocError>
+pub fn named(alloc: Global, text: &[u8], sort: Sort) -> Result<Name, AllocError>
     ensures { IfOk result (λ name. name.sort ≡ sort) }
 {
     if Name::allows(text) {
@@ -17,7 +17,7 @@ pub(crate) fn named(alloc: Global, text: &[u8], sort: Sort) -> Result<Name, Allo
 }
 
 /// The id of a term that fits.
-pub(crate) fn put(store: &mut Store, term: Term) -> Result<TermId, AllocError>
+pub fn put(store: &mut Store, term: Term) -> Result<TermId, AllocError>
     ensures { Extends store.old store.new }
 {
     if store.fits(&term) {
@@ -28,7 +28,7 @@ pub(crate) fn put(store: &mut Store, term: Term) -> Result<TermId, AllocError>
 }
 
 /// The id of the name with this text.
-pub(crate) fn put_name(
+pub fn put_name(
     alloc: Global,
     store: &mut Store,
     text: &[u8],
@@ -40,7 +40,7 @@ pub(crate) fn put_name(
 
 /// A term without a list or a name.
 #[derive(Clone, Copy)]
-pub(crate) enum Plain {
+pub enum Plain {
     True,
     False,
     Num(i128),
@@ -54,7 +54,7 @@ pub(crate) enum Plain {
 
 impl Plain {
     /// The term.
-    pub(crate) fn term(self) -> Term {
+    pub fn term(self) -> Term {
         match self {
             Plain::True => Term::True,
             Plain::False => Term::False,
@@ -70,42 +70,30 @@ impl Plain {
 }
 
 /// A list of ids.
-pub(crate) fn list(alloc: Global, ids: &[TermId]) -> Result<TermIds, AllocError> {
+pub fn list(alloc: Global, ids: &[TermId]) -> Result<TermIds, AllocError> {
     Ok(TermIds::from_vec(Vec::from_slice(alloc, ids)?))
 }
 
 /// The id of a sum.
-pub(crate) fn put_sum(
-    alloc: Global,
-    store: &mut Store,
-    ids: &[TermId],
-) -> Result<TermId, AllocError> {
+pub fn put_sum(alloc: Global, store: &mut Store, ids: &[TermId]) -> Result<TermId, AllocError> {
     let all = list(alloc, ids)?;
     put(store, Term::Sum(all))
 }
 
 /// The id of a conjunction.
-pub(crate) fn put_and(
-    alloc: Global,
-    store: &mut Store,
-    ids: &[TermId],
-) -> Result<TermId, AllocError> {
+pub fn put_and(alloc: Global, store: &mut Store, ids: &[TermId]) -> Result<TermId, AllocError> {
     let all = list(alloc, ids)?;
     put(store, Term::And(all))
 }
 
 /// The id of a disjunction.
-pub(crate) fn put_or(
-    alloc: Global,
-    store: &mut Store,
-    ids: &[TermId],
-) -> Result<TermId, AllocError> {
+pub fn put_or(alloc: Global, store: &mut Store, ids: &[TermId]) -> Result<TermId, AllocError> {
     let all = list(alloc, ids)?;
     put(store, Term::Or(all))
 }
 
 /// Whether all of the ids are ones of the store.
-pub(crate) fn has_all(store: &Store, ids: &[TermId]) -> bool
+pub fn has_all(store: &Store, ids: &[TermId]) -> bool
     ensures { IsTrue result ↔ All (Has store.now) ids.now }
 {
     ids.iter().all(|id| store.has(*id))

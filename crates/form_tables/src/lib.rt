@@ -1,0 +1,5 @@
+//! Worked examples, as tables, of linear forms. This crate has tests alone.
+#![tactic(auto)]
+
+#[cfg(test)]
+mod forms;
