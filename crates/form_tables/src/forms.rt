@@ -185,7 +185,7 @@ fn forms_are_turned_and_written(rt: HostRuntime) -> Result<(), Fail> {
 }
 
 /// Whether the form read off a number has this number as its constant, and no part.
-#[tactic(auto, using(crate::proofs::Forms::number_sort, crate::proofs::Forms::number_linear))]
+#[tactic(auto, using(crate::proofs::FormRows::number_sort, crate::proofs::FormRows::number_linear))]
 fn reads_number(alloc: Global, store: &mut Store, number: i128) -> Result<bool, AllocError> {
     let id = store.intern(Term::Num(number))?;
     let form = Lin::read(alloc, store, id)?;
@@ -193,7 +193,7 @@ fn reads_number(alloc: Global, store: &mut Store, number: i128) -> Result<bool, 
 }
 
 /// Whether the form read off the name of a number has the name as its part.
-#[tactic(auto, using(crate::proofs::Forms::name_sort, crate::proofs::Forms::name_linear))]
+#[tactic(auto, using(crate::proofs::FormRows::name_sort, crate::proofs::FormRows::name_linear))]
 fn reads_name(alloc: Global, store: &mut Store, name: Name) -> Result<bool, AllocError>
     requires int { name.sort ≡ Int }
 {
@@ -212,7 +212,7 @@ fn forms_are_read(rt: HostRuntime) -> Result<(), Fail> {
 }
 
 /// Whether the form of two parts and the constant 5 has these parts.
-#[tactic(auto, using(crate::proofs::Forms::two_apart))]
+#[tactic(auto, using(crate::proofs::FormRows::two_apart))]
 fn collects(
     alloc: Global,
     store: &Store,
