@@ -50,10 +50,10 @@ fn found(alloc: Global, store: &Store, id: TermId, model: &Model) -> Result<Foun
     if !store.has(id) {
         return Err(AllocError);
     }
-    match eval(alloc, store, id, model) {
-        Ok(value) => Ok(Ok(value)),
-        Err(EvalError::Wide { term }) => Ok(Err(term)),
-        Err(EvalError::Memory(error)) => Err(error),
+    match &eval(alloc, store, id, model) {
+        Ok(value) => Ok(Ok(*value)),
+        Err(EvalError::Wide { term }) => Ok(Err(*term)),
+        Err(EvalError::Memory(_)) => Err(AllocError),
     }
 }
 
