@@ -126,7 +126,6 @@ fn distinct_subterms_are_counted_up_to_the_limit(rt: HostRuntime) -> Result<(), 
 }
 
 /// What is seen of some terms, and then of others.
-#[tactic(auto, using(crate::proofs::Seeing::seen_whole))]
 fn seen(alloc: Global, store: &Store, first: &[TermId], then: &[TermId]) -> Result<Seen, AllocError>
     requires first_has { All (Has store.now) first.now }
     requires then_has { All (Has store.now) then.now }
