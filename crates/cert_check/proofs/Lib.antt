@@ -1,0 +1,7 @@
+pub mod Sound
+pub mod Same
+pub mod Running
+pub mod Giving
+pub mod Splitting
+pub mod Heading
+mod Parting
