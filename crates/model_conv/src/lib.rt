@@ -14,5 +14,7 @@ mod step;
 
 pub use conv::{Discarded, ModelConv};
 pub use error::LiftError;
-pub use laws::{lifting_keeps_sorts, lifts_compose, names_are_forgotten_last};
+pub use laws::{
+    lifting_keeps_numbers_narrow, lifting_keeps_sorts, lifts_compose, names_are_forgotten_last,
+};
 pub use step::LiftStep;
