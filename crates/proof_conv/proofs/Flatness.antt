@@ -31,7 +31,7 @@ flat_together (d ∷ ds) [] cs h a f e = absurd h
 flat_together (d ∷ ds) (n ∷ ns) [] h a f e = absurd (omega (arith, e))
 
 pub flat_nest : (o : Option Plan) (ns : List ℕ) (certs : List Cert) → IsSome o → NestAtMost o ns → AreAllowed ns → AreFlat certs → length certs ≡ length ns → Nests o certs
-flat_nest None ns certs s h a f e = absurd s
+flat_nest None ns certs s h a f e = cc
 flat_nest (Some p) ns certs s h a f e = flat_together (depths p) ns certs h a f e
 
 -- ---- the certificate that closes by `false`
