@@ -1,0 +1,13 @@
+-- Certificates without splits.
+use Rattle.std.specs.Prelude.{◌≡◌, ℕ, ◌≤◌, List, All}
+use Rattle.tac_cert.specs.declared.cert.Cert.{Cert}
+use Rattle.tac_cert.specs.Accepts.{most_splits}
+use Rattle.proof_conv.specs.Accepted.{nesting}
+
+-- no certificate has a split
+abbrev pub AreFlat : List Cert → Type 0
+AreFlat certs = All (λ c. nesting c.root ≡ 0) certs
+
+-- no number is greater than the number of splits that may nest
+abbrev pub AreAllowed : List ℕ → Type 0
+AreAllowed ns = All (λ n. n ≤ most_splits) ns
