@@ -70,11 +70,11 @@ most_raised d n (m ∷ ms) (k ∷ ns) l h = let a = h.0 in (omega (arith, l, a),
 most_raised d n [] (k ∷ ns) l h = absurd h
 most_raised d n (m ∷ ms) [] l h = absurd h
 
-most_both : (as bs cs ds : List ℕ) → AtMostEach as bs → AtMostEach cs ds → AtMostEach (as ++ cs) (bs ++ ds)
-most_both [] [] cs ds h k = k
-most_both (a ∷ as) (b ∷ bs) cs ds h k = (h.0, most_both as bs cs ds h.1 k)
-most_both [] (b ∷ bs) cs ds h k = absurd h
-most_both (a ∷ as) [] cs ds h k = absurd h
+most_both : (ks ls ms ns : List ℕ) → AtMostEach ks ls → AtMostEach ms ns → AtMostEach (ks ++ ms) (ls ++ ns)
+most_both [] [] ms ns h k = k
+most_both (d ∷ ks) (n ∷ ls) ms ns h k = (h.0, most_both ks ls ms ns h.1 k)
+most_both [] (n ∷ ls) ms ns h k = absurd h
+most_both (d ∷ ks) [] ms ns h k = absurd h
 
 abbrev MostEach : List (List ℕ) → List (List ℕ) → Type 0
 MostEach [] [] = Unit {0}
