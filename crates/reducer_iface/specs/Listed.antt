@@ -3,6 +3,7 @@ use Rattle.std.specs.Prelude.{◌≡◌, ℕ, ◌<◌, ◌≤◌, List, Ok, Err}
 use Rattle.qterm.specs.Tree.{Tree}
 use Rattle.qwalk.specs.Subterms.{HasSubterms}
 use Rattle.qlin.specs.CanonList.{canon_list}
+use Rattle.qlist_laws.specs.Formulas.{AreFormulas}
 use Rattle.deriv.specs.Outcome.{CauseTree, TooWide, TooLarge}
 
 -- how many distinct subterms the canonical list of a goal may have
@@ -13,8 +14,9 @@ most_subterms = 1048576
 unfoldable pub most_clausal : ℕ
 most_clausal = 8388608
 
--- c is the canonical list of the formulas, and has at most so many distinct subterms
+-- c is the canonical list of the formulas, whose sorts are right, and has at most so many distinct subterms
 pub record IsListed (most : ℕ) (fs c : List Tree) : Type 0 where
+  pub formulas : AreFormulas fs
   pub canonical : canon_list fs ≡ Ok c
   pub small : (n : ℕ) → HasSubterms c n → n ≤ most
 

@@ -3,12 +3,13 @@ use Rattle.std.specs.Prelude.{◌≡◌, ◌⊎◌, ℕ, ◌<◌, ◌≤◌, ◌
 use Rattle.qterm.specs.declared.name.Name.{Name}
 use Rattle.qterm.specs.Tree.{Tree, False}
 use Rattle.qeval.specs.declared.model.Value.TheVariants.{Bool}
-use Rattle.qeval.specs.Value.{Valuation}
+use Rattle.qeval.specs.Value.{Valuation, IsSorted}
 use Rattle.qsubst.specs.Names.{names_of}
 use Rattle.qgoal.specs.Goal.{GoalTree}
 use Rattle.qgoal.specs.Meaning.{IsModel}
 use Rattle.model_conv.specs.declared.step.LiftStep.{LiftStep}
 use Rattle.model_conv.specs.declared.step.LiftStep.TheVariants.{Set}
+use Rattle.model_conv.specs.Lift.{lifted}
 use Rattle.deriv.specs.Outcome as outcome
 use Rattle.deriv.specs.Outcome.{CauseTree, OutTree, Done, Failed}
 use Rattle.deriv.specs.Trees.{Lists}
@@ -16,23 +17,17 @@ use Rattle.reducer_iface.specs.Listed.{most_clausal, IsListed, IsUnlisted}
 use Rattle.reducer_iface.specs.Lemmas.{first_other, AreClauses, AreLemmas}
 
 -- ---- a success
--- names with truth values, as a valuation
-abbrev pub valued : List Name → List Truth → Valuation
-valued [] bs = []
-valued (n ∷ ns) [] = []
-valued (n ∷ ns) (b ∷ bs) = (n, Bool b) ∷ valued ns bs
-
 -- the steps that set names to truth values
 abbrev pub sets : List Name → List Truth → List LiftStep
 sets [] bs = []
 sets (n ∷ ns) [] = []
 sets (n ∷ ns) (b ∷ bs) = Set n (Bool b) ∷ sets ns bs
 
--- the clauses have a model, and the steps of lifting set each of their names, in name order, to its value in it
+-- the clauses have a model: the steps of lifting set each of their names, in name order, to a truth value, and whatever they are run on they give a model
 pub record IsFound (cs : List Tree) (fs : List Tree) (lifts : Lists) : Type 0 where
   pub values : List Truth
   pub each : length values ≡ length (names_of cs)
-  pub model : IsModel (valued (names_of cs) values) cs
+  pub model : (V : Valuation) → IsSorted V → IsModel (lifted (sets (names_of cs) values) V) cs
   pub formulas : fs ≡ []
   pub steps : lifts ≡ sets (names_of cs) values ∷ []
 
