@@ -55,6 +55,9 @@ shape_summands ts s = subst AreSummands (sym s.is) (terms_summands s.form.parts 
 below : (a b n : ℕ) → a ≤ n + n + n → b ≤ n + n + n → 1 + max a b + 2 ≤ suc n + suc n + suc n
 below a b n h k = omega (arith, h, k)
 
+three : (a b c n : ℕ) → a ≤ n + n + n → b ≤ n + n + n → c ≤ n + n + n → 1 + max a (max b c) + 2 ≤ suc n + suc n + suc n
+three a b c n h k l = omega (arith, h, k, l)
+
 fewer : (d m : ℕ) → d + 2 ≤ m → d ≤ m
 fewer d m h = omega (arith, h)
 
@@ -73,19 +76,13 @@ mutual
   deep (suc n) (Not a) c h = deep_not n a c.1 c.0 h
   deep (suc n) (And ts) c h = let k = deep_all n ts c.0 h in omega (arith, k)
   deep (suc n) (Or ts) c h = let k = deep_all n ts c.0 h in omega (arith, k)
-  deep (suc n) (Ite s a b) c h = fewer (1 + max (depth s) (max (depth a) (depth b))) (suc n + suc n + suc n) (deep_ite n s a b c.0 c.1 c.2 h)
-
-  deep_ite : (n : ℕ) (s a b : Tree) → IsCanonical s → IsCanonical a → IsCanonical b → AtMost (suc n) (Ite s a b) → 1 + max (depth s) (max (depth a) (depth b)) + 2 ≤ suc n + suc n + suc n
-  deep_ite n s a b cs ca cb h =
-      let p = deep n a ca h.1 in
-      let q = deep n b cb h.2 in
-      below (depth s) (max (depth a) (depth b)) n (deep n s cs h.0) (omega (arith, p, q))
+  deep (suc n) (Ite s a b) c h = fewer (1 + max (depth s) (max (depth a) (depth b))) (suc n + suc n + suc n) (three (depth s) (depth a) (depth b) n (deep n s c.0 h.0) (deep n a c.1 h.1) (deep n b c.2 h.2))
 
   -- a monomial is two less deep
   deep_mono : (n : ℕ) (t : Tree) → IsMono t → IsCanonical t → AtMost n t → depth t + 2 ≤ n + n + n
   deep_mono zero t m c h = absurd h
   deep_mono (suc n) (Var x) m c h = omega arith
-  deep_mono (suc n) (Ite s a b) m c h = deep_ite n s a b c.0 c.1 c.2 h
+  deep_mono (suc n) (Ite s a b) m c h = three (depth s) (depth a) (depth b) n (deep n s c.0 h.0) (deep n a c.1 h.1) (deep n b c.2 h.2)
   deep_mono (suc n) True m c h = absurd m
   deep_mono (suc n) False m c h = absurd m
   deep_mono (suc n) (Num z) m c h = absurd m
@@ -103,7 +100,7 @@ mutual
   deep_summand n (Num z) s c h = omega arith
   deep_summand n (Scale z a) s c h = let k = deep_mono (suc n) a c.1.mono c.0 h in omega (arith, k)
   deep_summand n (Var x) s c h = omega arith
-  deep_summand n (Ite u a b) s c h = let k = deep_ite n u a b c.0 c.1 c.2 h in omega (arith, k)
+  deep_summand n (Ite u a b) s c h = let k = three (depth u) (depth a) (depth b) n (deep n u c.0 h.0) (deep n a c.1 h.1) (deep n b c.2 h.2) in omega (arith, k)
   deep_summand n True s c h = absurd s
   deep_summand n False s c h = absurd s
   deep_summand n (Sum ts) s c h = absurd s
