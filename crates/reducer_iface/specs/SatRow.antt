@@ -58,7 +58,7 @@ pub record HasLemmas (g : GoalTree) (lemmas : List Tree) : Type 0 where
   pub list : List Tree
   pub listed : IsListed most_clausal g.formulas list
   pub clauses : AreClauses list
-  pub lemmas : AreLemmas list [] lemmas
+  pub each : AreLemmas list [] lemmas
 
 -- the first formula of the canonical list that is no clause has the number i, from 1
 pub record IsOther (g : GoalTree) (i : ℕ) : Type 0 where
@@ -68,13 +68,13 @@ pub record IsOther (g : GoalTree) (i : ℕ) : Type 0 where
 
 -- one lemma more than the limit
 pub record IsSpent (g : GoalTree) (limit : Option ℕ) (lemmas : List Tree) (spent : ℕ) : Type 0 where
-  pub lemmas : HasLemmas g lemmas
+  pub over : HasLemmas g lemmas
   pub past : MatchOption limit ⊥ (λ most. length lemmas ≡ most + 1)
   pub count : spent ≡ length lemmas
 
 -- the ticket of the last lemma is past the pool: it is at least the pool, and below the total that the check drew; the lemmas, at least that one, are at most one more than the limit
 pub record IsPoolSpent (g : GoalTree) (limit : Option ℕ) (pool drawn ticket : ℕ) (lemmas : List Tree) (spent : ℕ) : Type 0 where
-  pub lemmas : HasLemmas g lemmas
+  pub over : HasLemmas g lemmas
   pub some : 1 ≤ length lemmas
   pub in_limit : MatchOption limit (Unit {0}) (λ most. length lemmas ≤ most + 1)
   pub past : pool ≤ ticket
