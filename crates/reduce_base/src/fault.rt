@@ -1,10 +1,11 @@
 //! Why a goal has no canonical list within its size.
 ghost use Rattle.std.specs.Prelude.{◌≡◌};
 ghost use Rattle.reduce_base.specs.declared.fault.Fault.TheVariants.{Memory};
-ghost use Rattle.reduce_base.specs.Fault.{fault_of};
+ghost use Rattle.reduce_base.specs.Fault.{fault_of, stop_of};
 
 use qcanon::CanonError;
 use qterm::TermId;
+use reducer_iface::{Cause, Stop};
 use std::alloc::AllocError;
 
 /// Why a goal has no canonical list within its size.
@@ -33,6 +34,24 @@ impl From<CanonError> for Fault {
         match cause {
             CanonError::TooWide { term } => Fault::TooWide(term),
             CanonError::Memory(error) => Fault::Memory(error),
+        }
+    }
+}
+
+impl From<Fault> for Stop {
+    ghost from_gives = { λ fault e. e ≡ stop_of fault };
+
+    fn from(fault: Fault) -> Stop {
+        match fault {
+            Fault::TooWide(term) => Stop::Fail {
+                cause: Cause::TooWide(term),
+                lemmas: 0,
+            },
+            Fault::TooLarge(count) => Stop::Fail {
+                cause: Cause::TooLarge(count),
+                lemmas: 0,
+            },
+            Fault::Memory(_) => Stop::Memory,
         }
     }
 }

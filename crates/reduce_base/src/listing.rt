@@ -1,23 +1,24 @@
 //! The canonical list of a goal, with the steps of a certificate that lead to it.
-ghost use Rattle.std.specs.Prelude.{◌≡◌, ◌<◌, ◌≤◌, ◌↔◌, ℕ, All, IsTrue, IfOk, IfErr, Ok, length, map};
+ghost use Rattle.std.specs.Prelude.{◌≡◌, ◌++◌, ℕ, List, All, IfOk, IfErr, length, map};
+ghost use Rattle.std.specs.List.{AllZip};
 ghost use Rattle.qterm.specs.Store.{Has, HasSort, Extends, trees_of};
 ghost use Rattle.qterm.specs.declared.name.Sort.TheVariants.{Bool};
 ghost use Rattle.qwalk.specs.Subterms.{HasSubterms};
-ghost use Rattle.qlin.specs.CanonList.{canon_each, tidied};
+ghost use Rattle.qlin.specs.CanonList.{tidied};
+ghost use Rattle.tac_cert.specs.Items.{Item};
 ghost use Rattle.tac_cert.specs.Accepts.{as_items};
 ghost use Rattle.goal_depth.specs.Depths.{AreShallow};
 ghost use Rattle.proof_conv.specs.Leaves.{StepsLeave};
 ghost use Rattle.reducer_iface.specs.Listed.{IsListed};
 ghost use Rattle.reduce_base.specs.Fault.{IsFault};
-ghost use Rattle.reduce_base.specs.Trace.{ArePlaced};
-ghost use Rattle.reduce_base.specs.declared.places.Place.{Place};
+ghost use Rattle.reduce_base.specs.Forms.{IsForm};
+ghost use Rattle.reduce_base.specs.Trace.{shown, LeadsOn, ArePlaced};
 
 use crate::fault::Fault;
 use crate::forms::canonical_forms;
 use crate::places::{Place, first_false, once, place_all};
-use crate::trace::{Trace, number_behind, rewrite_all};
-use goal_depth::{can_be_named, forms_are_shallow, lists_are_shallow};
-use qcanon_laws::{is_its_own, keeps_sort};
+use crate::trace::{Trace, number_at, rewrite_all};
+use goal_depth::lists_are_shallow;
 use qterm::{Store, TermId, TermIds};
 use qwalk::count_subterms;
 use sqlite_items::Items;
@@ -56,4 +57,98 @@ pub fn list_goal(
         return Err(Fault::TooLarge(count as u64));
     }
     Ok(listed)
+}
+
+/// The canonical list of a goal of which these are the canonical forms, with the steps that lead to it.
+fn trace_list(
+    alloc: Global,
+    store: &Store,
+    goal: &[TermId],
+    forms: &[TermId],
+) -> Result<Listed, AllocError>
+    requires formulas { All (HasSort Bool store.now) goal.now }
+    requires shallow { AreShallow (trees_of store.now goal.now) }
+    requires forms { AllZip (IsForm store.now store.now) goal.now forms.now }
+    ensures tidied { IfOk result (λ l. trees_of store.now l.formulas ≡ tidied (trees_of store.now forms.now)) }
+    ensures has { IfOk result (λ l. All (Has store.now) l.formulas) }
+    ensures leads { IfOk result (λ l. StepsLeave store.now (as_items (trees_of store.now goal.now)) l.steps (as_items (trees_of store.now l.formulas))) }
+{
+    store.is_lawful();
+    store.is_distinct();
+    let mut trace = Trace {
+        items: Vec::from_slice(alloc, goal)?,
+        steps: Items::new(alloc),
+    };
+    rewrite_all(store, &mut trace, goal, forms)?;
+    let places = chosen(alloc, store, &mut trace, goal.len(), forms)?;
+    let listed = keep(alloc, store, trace, places.as_slice())?;
+    Ok(listed)
+}
+
+/// The places of the canonical list's formulas among the items of a trace, where the canonical forms are the items behind so many
+/// others.
+fn chosen(
+    alloc: Global,
+    store: &Store,
+    trace: &mut Trace,
+    behind: usize,
+    forms: &[TermId],
+) -> Result<Vec<Place>, AllocError>
+    requires has { All (HasSort Bool store.now) forms.now }
+    requires items { (before : List ℕ) × (trace.old.items.items ≡ before ++ forms.now) × (length before ≡ behind) }
+    ensures leads { IfOk result (λ places. LeadsOn store.now trace.old trace.new) }
+    ensures tidied { IfOk result (λ places. trees_of store.now (map (λ p. p.id) places.items) ≡ tidied (trees_of store.now forms.now)) }
+    ensures placed { IfOk result (λ places. ArePlaced trace.new.items.items places.items) }
+{
+    store.is_distinct();
+    match first_false(store, forms) {
+        Some(at) => {
+            let number = number_at(behind, at)?;
+            let mut places = Vec::new(alloc);
+            places.push(Place {
+                number,
+                id: forms[at],
+            })?;
+            Ok(places)
+        }
+        None => {
+            let places = place_all(alloc, store, trace, behind, forms)?;
+            let kept = once(alloc, places.as_slice())?;
+            Ok(kept)
+        }
+    }
+}
+
+/// Keeps the items at the places alone.
+fn keep(alloc: Global, _store: &Store, trace: Trace, places: &[Place]) -> Result<Listed, AllocError>
+    requires placed { ArePlaced trace.items.items places.now }
+    ensures formulas { IfOk result (λ l. l.formulas ≡ map (λ p. p.id) places.now) }
+    ensures leads { IfOk result (λ l. (items : List Item) → StepsLeave _store.now items trace.steps (shown _store.now trace) → StepsLeave _store.now items l.steps (as_items (trees_of _store.now l.formulas))) }
+{
+    let mut numbers = Items::new(alloc);
+    let mut ids = Vec::new(alloc);
+    for place in places {
+        numbers.push(place.number)?;
+        ids.push(place.id)?;
+    }
+    let Trace {
+        items: _,
+        mut steps,
+    } = trace;
+    steps.push(Step::Keep { items: numbers })?;
+    Ok(Listed {
+        formulas: TermIds::from_vec(ids),
+        steps,
+    })
+}
+
+/// How many distinct subterms terms have. A store has fewer than 2^32.
+fn size(alloc: Global, store: &Store, list: &[TermId]) -> Result<usize, AllocError>
+    requires has { All (Has store.now) list.now }
+    ensures { IfOk result (HasSubterms (trees_of store.now list.now)) }
+{
+    match count_subterms(alloc, store, list, store.size())? {
+        Some(count) => Ok(count),
+        None => Err(AllocError),
+    }
 }

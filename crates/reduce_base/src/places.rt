@@ -11,7 +11,7 @@ ghost use Rattle.qlin.specs.CanonList.{spread, is_in};
 ghost use Rattle.reduce_base.specs.declared.places.Place.{Place};
 ghost use Rattle.reduce_base.specs.Trace.{LeadsOn, IsAt, ArePlaced};
 
-use crate::trace::{Trace, number_behind, push};
+use crate::trace::{Trace, number_at, number_behind, push};
 use indexmap::IndexSet;
 use qterm::{Store, Term, TermId};
 use std::alloc::{AllocError, Global};
@@ -98,7 +98,7 @@ pub(crate) fn place_all(
 {
     let mut places = Vec::new(alloc);
     for at in 0..forms.len() {
-        let number = number_behind(behind + at)?;
+        let number = number_at(behind, at)?;
         push_parts(store, trace, number, forms[at], &mut places)?;
     }
     Ok(places)

@@ -48,6 +48,16 @@ pub(crate) fn number_behind(count: usize) -> Result<u32, AllocError>
     Ok(count as u32 + 1)
 }
 
+/// The number of the item at a place, from 0, behind so many others.
+pub(crate) fn number_at(behind: usize, place: usize) -> Result<u32, AllocError>
+    ensures { IfOk result (λ number. number ≡ behind + place + 1) }
+{
+    match behind.checked_add(place) {
+        Some(count) => number_behind(count),
+        None => Err(AllocError),
+    }
+}
+
 /// Rewrites each formula of a goal, which are the first items, to its canonical form.
 pub(crate) fn rewrite_all(
     store: &Store,
@@ -66,7 +76,15 @@ pub(crate) fn rewrite_all(
     for at in 0..forms.len() {
         let form = forms[at];
         let item = number_behind(at)?;
-        push(store, trace, Step::Rw { item, formula: form }, form)?;
+        push(
+            store,
+            trace,
+            Step::Rw {
+                item,
+                formula: form,
+            },
+            form,
+        )?;
     }
     Ok(())
 }

@@ -78,7 +78,7 @@ pub record IsPoolSpent (g : GoalTree) (limit : Option ℕ) (pool drawn ticket : 
   pub some : 1 ≤ length lemmas
   pub in_limit : MatchOption limit (Unit {0}) (λ most. length lemmas ≤ most + 1)
   pub past : pool ≤ ticket
-  pub drawn : ticket < drawn
+  pub below : ticket < drawn
   pub count : spent ≡ length lemmas
 
 -- the cause, with the number of lemmas: there is no canonical list within its size; or one of its formulas is no clause; or the lemmas are spent

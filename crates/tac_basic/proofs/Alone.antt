@@ -20,10 +20,10 @@ use Rattle.reducer_iface.specs.Depths.{IsShallow, AllShallow}
 use Rattle.reducer_iface.specs.Allowed.{IsSuccess}
 use Rattle.reducer_iface.proofs.RowsLaws.{honest_alone}
 
-all_one : {X : Type 0} (P : X → Type 0) (x : X) → P x → All P (x ∷ [])
+pub all_one : {X : Type 0} (P : X → Type 0) (x : X) → P x → All P (x ∷ [])
 all_one P x h = All-cons P x [] h (All-nil P)
 
-one_outcome : (h : GoalTree) → IsOutcome (Done (h ∷ []))
+pub one_outcome : (h : GoalTree) → IsOutcome (Done (h ∷ []))
 one_outcome h = (omega arith, omega arith)
 
 -- the success of skip
