@@ -1,3 +1,5 @@
 pub mod Forming
 pub mod Pushing
 pub mod Rewriting
+pub mod Leading
+pub mod Choosing

@@ -7,4 +7,4 @@ mod success;
 
 pub use fail::FailReducer;
 pub use skip::Skip;
-pub use success::success;
+pub use success::one_goal;

@@ -1,7 +1,7 @@
 //! The reducer that does nothing.
 ghost use Rattle.deriv.specs.declared.kind.Kind.TheVariants as kinds;
 
-use crate::success::success;
+use crate::success::one_goal;
 use qgoal::Goal;
 use qterm::Store;
 use race_word::{Racer, Races};
@@ -30,7 +30,7 @@ impl Reducer for Skip {
         _racer: &mut Racer,
     ) -> Result<Applied, Stop> {
         let same = goal.clone()?;
-        let applied = success(alloc, same, Items::new(alloc))?;
+        let applied = one_goal(alloc, same, Items::new(alloc))?;
         Ok(applied)
     }
 }

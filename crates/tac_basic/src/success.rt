@@ -15,7 +15,7 @@ use std::alloc::{AllocError, Global};
 use tac_cert::Step;
 
 /// The success with this one goal, to which the steps of a certificate lead, without a step of lifting and without a lemma.
-pub fn success(alloc: Global, goal: Goal, steps: Items<Step>) -> Result<Applied, AllocError>
+pub fn one_goal(alloc: Global, goal: Goal, steps: Items<Step>) -> Result<Applied, AllocError>
     ensures goals { IfOk result (λ a. a.goals ≡ goal ∷ []) }
     ensures models { IfOk result (λ a. a.models ≡ [] ∷ []) }
     ensures proofs { IfOk result (λ a. IsOpen steps a.proofs) }

@@ -8,7 +8,7 @@ use race_word::{Racer, Races};
 use reduce_base::{Listed, list_goal};
 use reducer_iface::{Applied, Env, Kind, Reducer, Stop};
 use std::alloc::Global;
-use tac_basic::success;
+use tac_basic::one_goal;
 
 /// Gives exactly the canonical list of the goal. It fails with `TooWide` where a subterm has no canonical form, and with `TooLarge`
 /// where the list has more than 1,048,576 distinct subterms.
@@ -42,7 +42,7 @@ impl Reducer for Simplify {
             formulas,
             precision: goal.precision,
         };
-        let applied = success(alloc, listed, steps)?;
+        let applied = one_goal(alloc, listed, steps)?;
         Ok(applied)
     }
 }
