@@ -1,5 +1,0 @@
-pub mod Forming
-pub mod Pushing
-pub mod Rewriting
-pub mod Leading
-pub mod Choosing
