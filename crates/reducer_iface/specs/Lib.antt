@@ -1,0 +1,11 @@
+pub mod Depths
+pub mod Listed
+pub mod Lemmas
+pub mod SkipRow
+pub mod FailRow
+pub mod SimplifyRow
+pub mod SatRow
+pub mod CustomRow
+pub mod Rows
+pub mod Allowed
+pub mod Names

@@ -1,0 +1,23 @@
+-- What a reducer of each kind may answer. A kind without a row here isn't built yet, and nothing is allowed to it.
+use Rattle.std.specs.Prelude.{ℕ, Option}
+use Rattle.qgoal.specs.Goal.{GoalTree}
+use Rattle.deriv.specs.declared.kind.Kind.{Kind}
+use Rattle.deriv.specs.declared.kind.Kind.TheVariants as kinds
+use Rattle.deriv.specs.declared.params.Params.{Params}
+use Rattle.deriv.specs.Outcome.{OutTree}
+use Rattle.deriv.specs.Trees.{Lists}
+use Rattle.deriv.specs.Derives.{Rows}
+use Rattle.reducer_iface.specs.SkipRow.{SkipRow}
+use Rattle.reducer_iface.specs.FailRow.{FailRow}
+use Rattle.reducer_iface.specs.SimplifyRow.{SimplifyRow}
+use Rattle.reducer_iface.specs.SatRow.{SatRow}
+use Rattle.reducer_iface.specs.CustomRow.{CustomRow}
+
+-- by kind, under these parameters, of this goal, limit, pool and total drawn: the outcome, the steps of lifting and the spent lemmas
+abbrev pub rows : Rows
+rows kinds.Skip ps g l pool drawn out lifts spent = SkipRow g out lifts spent
+rows kinds.Fail ps g l pool drawn out lifts spent = FailRow out lifts spent
+rows kinds.Simplify ps g l pool drawn out lifts spent = SimplifyRow g out lifts spent
+rows kinds.Sat ps g l pool drawn out lifts spent = SatRow g l pool drawn out lifts spent
+rows kinds.Custom ps g l pool drawn out lifts spent = CustomRow g out lifts
+rows _ ps g l pool drawn out lifts spent = ⊥
