@@ -12,11 +12,7 @@ use Rattle.tac_cert.specs.Clauses.{Lit, name_lit, lit_of, put_lit, lits_in, lits
 use Rattle.tac_cert.specs.Depth.{depth, depths, deepest_term, is_shallow}
 use Rattle.tac_cert.specs.WellSorted.{well_sorted, all_sorted, has_sort}
 use Rattle.sat_clauses.specs.Coding.{lit_with, clause_with, AreBelow}
-use Rattle.sat_lines.specs.Terms.{lit_tree, clause_tree}
-
--- each number below v stands for a Bool name
-abbrev pub AreBool : ℕ → (ℕ → Name) → Type 0
-AreBool v f = (k : ℕ) → k < v → (f k).sort ≡ sort.Bool
+use Rattle.sat_lines.specs.Terms.{lit_tree, clause_tree, AreBool}
 
 -- ---- the clause that it is
 lit_read : (f : ℕ → Name) (l : Numbered) → (f l.var).sort ≡ sort.Bool → lit_of (lit_tree f l) ≡ Some (lit_with f l)

@@ -6,6 +6,7 @@ use Rattle.qterm.specs.declared.name.Sort.TheVariants as sort
 use Rattle.qterm.specs.Tree.{Tree, False}
 use Rattle.qterm.specs.Store.{tree_at, Shows}
 use Rattle.rup.specs.declared.literal.Lit.{Lit as Numbered}
+use Rattle.rup.proofs.Bools.{and_left, and_right}
 use Rattle.sat_core.specs.declared.solver.RupLine.{RupLine}
 use Rattle.sat_core.specs.Clauses.{is_empty}
 use Rattle.sat_core.specs.Lines as lines
@@ -24,9 +25,9 @@ use Rattle.sat_clauses.proofs.Following.{rup_follows}
 use Rattle.sat_clauses.proofs.Reading.{read_push, all_below_push}
 use Rattle.proof_conv.specs.Leaves.{StepsLeave}
 use Rattle.proof_conv.proofs.Fuel.{steps_then}
-use Rattle.sat_lines.specs.Terms.{clause_tree}
+use Rattle.sat_lines.specs.Terms.{clause_tree, AreBool}
 use Rattle.sat_lines.specs.Lines.{line_trees, LinesBelow, IsLineStep, AreLineSteps}
-use Rattle.sat_lines.proofs.Formed.{AreBool, clause_read, clause_shallow, clause_sorted}
+use Rattle.sat_lines.proofs.Formed.{clause_read, clause_shallow, clause_sorted}
 
 -- ---- one step
 rup_gives : (ts : List Tree) (items : List Item) (id : ℕ) (hints : List ℕ) (t : Tree) → tree_at ts id ≡ t → is_shallow t ≡ true → has_sort sort.Bool t ≡ true → is_rup items t hints ≡ true → gives ts items (step.Rup id hints) ≡ Some (items ++ Formula t ∷ [])
@@ -45,21 +46,13 @@ abbrev FollowAll : List (List Numbered) → List RupLine → Type 0
 FollowAll known [] = Unit {0}
 FollowAll known (line ∷ ls) = (lines.follows known line ≡ true) × FollowAll (known ++ line.clause ∷ []) ls
 
-both_left : (a b : Truth) → a && b ≡ true → a ≡ true
-both_left true b h = refl
-both_left false b h = cc
-
-both_right : (a b : Truth) → a && b ≡ true → b ≡ true
-both_right true b h = h
-both_right false b h = cc
-
 follow_all : (known : List (List Numbered)) (ls : List RupLine) → refutes known ls ≡ true → FollowAll known ls
 follow_all known [] h = tt
-follow_all known (line ∷ []) h = (both_left (lines.follows known line) (is_empty line.clause) h, tt)
+follow_all known (line ∷ []) h = (and_left (lines.follows known line) (is_empty line.clause) h, tt)
 follow_all known (line ∷ next ∷ ls) h =
     let rest = refutes (known ++ line.clause ∷ []) (next ∷ ls) in
     let here = lines.follows known line && lines.is_new known line.clause in
-    (both_left (lines.follows known line) (lines.is_new known line.clause) (both_left here rest h), follow_all (known ++ line.clause ∷ []) (next ∷ ls) (both_right here rest h))
+    (and_left (lines.follows known line) (lines.is_new known line.clause) (and_left here rest h), follow_all (known ++ line.clause ∷ []) (next ∷ ls) (and_right here rest h))
 
 steps_fit : (ts : List Tree) (f : ℕ → Name) (ls : List RupLine) (ss : List Step) → AreLineSteps ts f ls ss → StepsFit ts ss
 steps_fit ts f [] [] h = tt
@@ -92,11 +85,11 @@ empty_false f (l ∷ ls) e = cc
 
 lines_end : (f : ℕ → Name) (known : List (List Numbered)) (ls : List RupLine) → refutes known ls ≡ true → EndsFalse (line_trees f ls) (length ls)
 lines_end f known [] h = cc
-lines_end f known (line ∷ []) h = record { front = []; is = ap (λ t. t ∷ []) (empty_false f line.clause (both_right (lines.follows known line) (is_empty line.clause) h)); count = refl }
+lines_end f known (line ∷ []) h = record { front = []; is = ap (λ t. t ∷ []) (empty_false f line.clause (and_right (lines.follows known line) (is_empty line.clause) h)); count = refl }
 lines_end f known (line ∷ next ∷ ls) h =
     let rest = refutes (known ++ line.clause ∷ []) (next ∷ ls) in
     let here = lines.follows known line && lines.is_new known line.clause in
-    let k = lines_end f (known ++ line.clause ∷ []) (next ∷ ls) (both_right here rest h) in
+    let k = lines_end f (known ++ line.clause ∷ []) (next ∷ ls) (and_right here rest h) in
     record { front = clause_tree f line.clause ∷ k.front; is = ap (λ u. clause_tree f line.clause ∷ u) k.is; count = ap suc k.count }
 
 at_end : (us : List Tree) (t : Tree) → slice_get (as_items (us ++ t ∷ [])) (length us) ≡ Some (Formula t)

@@ -17,6 +17,10 @@ abbrev pub clause_tree : (ℕ → Name) → List Numbered → Tree
 clause_tree f [] = False
 clause_tree f (l ∷ ls) = Or (row (map (lit_tree f) (l ∷ ls)))
 
+-- each number below v stands for a Bool name
+abbrev pub AreBool : ℕ → (ℕ → Name) → Type 0
+AreBool v f = (k : ℕ) → k < v → (f k).sort ≡ sort.Bool
+
 -- the numbers stand for these Bool names, whose terms are those of a list
 pub record StandFor (ts : List Tree) (vars : List ℕ) (f : ℕ → Name) : Type 0 where
   pub has : (k : ℕ) → k < length vars → Has ts (get_or vars k 0)
