@@ -1,11 +1,11 @@
 -- Making the terms of clauses, literal by literal, and the steps of lines, line by line.
-use Rattle.std.proofs.Common.{◌≡◌, ℕ, zero, suc, ◌+◌, ◌<◌, ◌≤◌, List, [], ◌∷◌, ◌++◌, length, map, take, get_or, reverse, All, refl, sym, ap, subst, ◌∙◌, arith, append_assoc, append-nil}
+use Rattle.std.proofs.Common.{◌≡◌, ℕ, zero, suc, ◌+◌, ◌<◌, ◌≤◌, List, [], ◌∷◌, ◌++◌, length, map, take, get_or, reverse, All, sym, ap, subst, ◌∙◌, arith, append_assoc, append-nil}
 use Rattle.std.proofs.lemmas.List.{map_more, take_all, reverse-append}
 use Rattle.std.proofs.lemmas.List.Elements.{All-nil, All-cons, All-append}
 use Rattle.qterm.specs.declared.name.Name.{Name}
 use Rattle.qterm.specs.declared.name.Sort.TheVariants as sort
 use Rattle.qterm.specs.Tree.{Tree, False, Or}
-use Rattle.qterm.specs.Store.{tree_at, trees_at, trees_of, Has, HasSort, Shows, Extends}
+use Rattle.qterm.specs.Store.{trees_at, trees_of, Has, HasSort, Shows, Extends}
 use Rattle.qterm.specs.Kids.{row}
 use Rattle.qterm.proofs.Alls.{All-weaker}
 use Rattle.qterm.proofs.Fitting.{Has_extends, All_HasSort_extends}

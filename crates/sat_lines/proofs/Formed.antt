@@ -1,16 +1,15 @@
 -- The term of a clause is the clause, is well sorted, and isn't deep.
-use Rattle.std.proofs.Common.{◌≡◌, ℕ, ◌+◌, ◌<◌, ◌≤◌, max, Bool as Truth, true, false, ◌&&◌, List, [], ◌∷◌, map, refl, sym, ap, ◌∙◌, arith, if◌then◌else◌, Option, Some, None, nat_le}
+use Rattle.std.proofs.Common.{◌≡◌, ℕ, ◌≤◌, Bool as Truth, true, false, ◌&&◌, List, [], ◌∷◌, map, refl, ap, arith, if◌then◌else◌, Some, None}
 use Rattle.std.proofs.lemmas.Bool.{le-leb}
 use Rattle.qterm.specs.declared.name.Name.{Name}
-use Rattle.qterm.specs.declared.name.Sort.{Sort}
 use Rattle.qterm.specs.declared.name.Sort.TheVariants as sort
-use Rattle.qterm.specs.Tree.{Tree, Trees, False, Var, Not, Or, none, more, sort_of}
+use Rattle.qterm.specs.Tree.{Var, Not}
 use Rattle.qterm.specs.Kids.{row}
 use Rattle.rup.specs.declared.literal.Lit.{Lit as Numbered}
 use Rattle.tac_cert.specs.Names.{is_int, same_sort}
-use Rattle.tac_cert.specs.Clauses.{Lit, name_lit, lit_of, put_lit, lits_in, lits_of}
+use Rattle.tac_cert.specs.Clauses.{lit_of, put_lit, lits_in, lits_of}
 use Rattle.tac_cert.specs.Depth.{depth, depths, deepest_term, is_shallow}
-use Rattle.tac_cert.specs.WellSorted.{well_sorted, all_sorted, has_sort}
+use Rattle.tac_cert.specs.WellSorted.{all_sorted, has_sort}
 use Rattle.sat_clauses.specs.Coding.{lit_with, clause_with, AreBelow}
 use Rattle.sat_lines.specs.Terms.{lit_tree, clause_tree, AreBool}
 

@@ -1,10 +1,9 @@
 -- The steps of a refutation leave `false`.
-use Rattle.std.proofs.Common.{◌≡◌, ℕ, zero, suc, ◌+◌, ◌-◌, ◌<◌, ◌≤◌, Bool as Truth, true, false, ◌&&◌, List, [], ◌∷◌, ◌++◌, length, map, refl, sym, ap, subst, ◌∙◌, arith, append_assoc, append-nil, length-append, if◌then◌else◌, Option, Some, None, nat_eq, slice_get, eqb-true}
-use Rattle.std.specs.List.{list_all}
+use Rattle.std.proofs.Common.{◌≡◌, ℕ, suc, ◌+◌, ◌-◌, Bool as Truth, true, false, ◌&&◌, List, [], ◌∷◌, ◌++◌, length, refl, sym, ap, subst, ◌∙◌, arith, append_assoc, append-nil, length-append, if◌then◌else◌, Some, None, nat_eq, slice_get, eqb-true}
 use Rattle.qterm.specs.declared.name.Name.{Name}
 use Rattle.qterm.specs.declared.name.Sort.TheVariants as sort
 use Rattle.qterm.specs.Tree.{Tree, False}
-use Rattle.qterm.specs.Store.{tree_at, Shows}
+use Rattle.qterm.specs.Store.{tree_at}
 use Rattle.rup.specs.declared.literal.Lit.{Lit as Numbered}
 use Rattle.rup.proofs.Bools.{and_left, and_right}
 use Rattle.sat_core.specs.declared.solver.RupLine.{RupLine}
@@ -15,18 +14,18 @@ use Rattle.tac_cert.specs.declared.cert.Step.{Step}
 use Rattle.tac_cert.specs.declared.cert.Step.TheVariants as step
 use Rattle.tac_cert.specs.Items.{Item, Formula, item, gives_if}
 use Rattle.tac_cert.specs.Depth.{is_shallow}
-use Rattle.tac_cert.specs.WellSorted.{has_sort, items_sorted}
+use Rattle.tac_cert.specs.WellSorted.{has_sort}
 use Rattle.tac_cert.specs.Rup.{is_rup}
-use Rattle.tac_cert.specs.Formulas.{put, kept}
+use Rattle.tac_cert.specs.Formulas.{put}
 use Rattle.tac_cert.specs.Gives.{gives, adds, StepFits}
 use Rattle.tac_cert.specs.Accepts.{AfterSteps, StepsFit, as_items}
-use Rattle.sat_clauses.specs.Coding.{clause_with, AreBelow, AllBelow, AreRead, AreDifferent}
+use Rattle.sat_clauses.specs.Coding.{AllBelow, AreRead, AreDifferent}
 use Rattle.sat_clauses.proofs.Following.{rup_follows}
 use Rattle.sat_clauses.proofs.Reading.{read_push, all_below_push}
 use Rattle.proof_conv.specs.Leaves.{StepsLeave}
 use Rattle.proof_conv.proofs.Fuel.{steps_then}
 use Rattle.sat_lines.specs.Terms.{clause_tree, AreBool}
-use Rattle.sat_lines.specs.Lines.{line_trees, LinesBelow, IsLineStep, AreLineSteps}
+use Rattle.sat_lines.specs.Lines.{line_trees, LinesBelow, AreLineSteps}
 use Rattle.sat_lines.proofs.Formed.{clause_read, clause_shallow, clause_sorted}
 
 -- ---- one step

@@ -1,8 +1,8 @@
-use Rattle.std.proofs.Common.{◌∙◌, length}
+use Rattle.std.proofs.Common.{length}
 use Rattle.qterm.specs.declared.name.Sort.TheVariants as sort
-use Rattle.qterm.proofs.Extending.{Extends_refl, Extends_trans}
+use Rattle.qterm.proofs.Extending.{Extends_trans}
 use Rattle.qterm.proofs.Fitting.{All_HasSort_extends}
-use Rattle.sat_lines.proofs.Building.{so_begins, so_more, so_ends, line_below}
+use Rattle.sat_lines.proofs.Building.{so_more, line_below}
 use Rattle.sat_lines.proofs.lines.line_steps.Goals as goal
 
 pub line_step-requires : goal.line_step-requires

@@ -1,4 +1,4 @@
-use Rattle.std.proofs.Common.{◌≡◌, ◌+◌, length, arith, rules}
+use Rattle.std.proofs.Common.{◌≡◌, length, arith, rules}
 use Rattle.sat_lines.proofs.Refuting.{refuted}
 use Rattle.sat_lines.proofs.lines.refutation.Goals as goal
 
