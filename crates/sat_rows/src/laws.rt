@@ -1,7 +1,9 @@
 //! The laws of the solver's answers.
-ghost use Rattle.std.specs.Prelude.{◌≡◌, ◌<◌, ℕ, Bool, List, [], length, true, Some};
+ghost use Rattle.std.specs.Prelude.{◌≡◌, ◌<◌, ℕ, Bool, List, [], length, map, Contains, true, Some};
 ghost use Rattle.qterm.specs.declared.name.Name.{Name};
-ghost use Rattle.qterm.specs.Tree.{Tree};
+ghost use Rattle.qterm.specs.Tree.{Tree, Var};
+ghost use Rattle.qterm.specs.Store.{trees_of};
+ghost use Rattle.qsubst.specs.Names.{names_of};
 ghost use Rattle.qeval.specs.Value.{Valuation, IsSorted};
 ghost use Rattle.model_conv.specs.Lift.{lifted};
 ghost use Rattle.sat_core.specs.Models as solver;
@@ -10,7 +12,7 @@ ghost use Rattle.qgoal.specs.Meaning.{IsModel, HasName};
 ghost use Rattle.rup.specs.declared.literal.Lit.{Lit as Numbered};
 ghost use Rattle.sat_core.specs.declared.solver.RupLine.{RupLine};
 ghost use Rattle.sat_core.specs.Lines.{learnt, refutes};
-ghost use Rattle.sat_clauses.specs.Coding.{AllBelow, AreRead, AreDifferent, IsFirstOther};
+ghost use Rattle.sat_clauses.specs.Coding.{name_at, HasNamesOf, AllBelow, AreRead, AreDifferent, IsFirstOther};
 ghost use Rattle.sat_lines.specs.Lines.{line_trees, LinesBelow};
 ghost use Rattle.reducer_iface.specs.Lemmas.{first_other, AreClauses, AreLemmas};
 ghost use Rattle.sat_lines.specs.Terms.{AreBool};
@@ -34,6 +36,15 @@ pub fn refuted_lists_have_no_model()
 {
     refuted_clauses_have_no_model();
 }
+
+/// Where a list has the terms of the names of formulas in name order, its numbers stand for those names, each
+/// of which occurs, and the list has each name of a formula.
+pub fn names_are_numbered()
+    ensures count { (ts : List Tree) (vars : List ℕ) (cs : List Tree) → trees_of ts vars ≡ map Var (names_of cs) → length vars ≡ length (names_of cs) }
+    ensures names { (ts : List Tree) (vars : List ℕ) (cs : List Tree) → trees_of ts vars ≡ map Var (names_of cs) → AreNames (names_of cs) (name_at ts vars) }
+    ensures there { (ts : List Tree) (vars : List ℕ) (cs : List Tree) → trees_of ts vars ≡ map Var (names_of cs) → (t : Tree) → Contains cs t → HasNamesOf ts vars t }
+    ensures occur { (ts : List Tree) (vars : List ℕ) (cs : List Tree) → trees_of ts vars ≡ map Var (names_of cs) → (k : ℕ) → k < length vars → HasName cs (name_at ts vars k) }
+{}
 
 /// Formulas that are read are clauses, and the first that is none is the first other.
 pub fn read_lists_are_clauses()

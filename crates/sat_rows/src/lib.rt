@@ -6,5 +6,6 @@
 mod laws;
 
 pub use laws::{
-    found_values_are_a_model, lines_are_lemmas, read_lists_are_clauses, refuted_lists_have_no_model,
+    found_values_are_a_model, lines_are_lemmas, names_are_numbered, read_lists_are_clauses,
+    refuted_lists_have_no_model,
 };
