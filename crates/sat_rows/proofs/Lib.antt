@@ -1,0 +1,4 @@
+pub mod Learning
+pub mod Refuted
+pub mod Setting
+pub mod Naming
