@@ -1,5 +1,6 @@
 -- Certificates without splits.
-use Rattle.std.proofs.Common.{◌≡◌, ℕ, ◌+◌, ◌≤◌, List, [], ◌∷◌, length, All, Option, Some, None, is_some, IsSome, refl, sym, ap, subst, ◌∙◌, arith}
+use Rattle.std.proofs.Common.{◌≡◌, ℕ, zero, suc, ◌+◌, ◌≤◌, List, [], ◌∷◌, length, All, Option, Some, None, refl, sym, ap, subst, ◌∙◌, arith}
+use Rattle.std.specs.Option.{IsSome}
 use Rattle.std.proofs.lemmas.List.Elements.{All-head, All-tail}
 use Rattle.qterm.specs.Tree.{Tree, False}
 use Rattle.tac_cert.specs.Items.{Item, Formula, item}
@@ -30,7 +31,7 @@ flat_together (d ∷ ds) [] cs h a f e = absurd h
 flat_together (d ∷ ds) (n ∷ ns) [] h a f e = absurd (omega (arith, e))
 
 pub flat_nest : (o : Option Plan) (ns : List ℕ) (certs : List Cert) → IsSome o → NestAtMost o ns → AreAllowed ns → AreFlat certs → length certs ≡ length ns → Nests o certs
-flat_nest None ns certs s h a f e = absurd s
+flat_nest None ns certs s h a f e = cc
 flat_nest (Some p) ns certs s h a f e = flat_together (depths p) ns certs h a f e
 
 -- ---- the certificate that closes by `false`
@@ -38,11 +39,11 @@ pub false_flat : (i : ℕ) → nesting (false_proof i) ≡ 0
 false_flat i = nesting_out (false_proof i) (Close-F.False i) (close.outs-False i)
 
 closes_false : (ts : List Tree) (n : ℕ) (items : List Item) (i : ℕ) → item items i ≡ Some (Formula False) → Closes ts n items (false_proof i)
-closes_false ts 0 items i h = subst (ClosesBy (λ _ _. ⊥) items) (sym (close.outs-False i)) h
+closes_false ts zero items i h = subst (ClosesBy (λ _ _. ⊥) items) (sym (close.outs-False i)) h
 closes_false ts (suc n) items i h = subst (ClosesBy (Closes ts n) items) (sym (close.outs-False i)) h
 
 false_fits : (ts : List Tree) (n : ℕ) (i : ℕ) → ProofFits ts n (false_proof i)
-false_fits ts 0 i = tt
+false_fits ts zero i = tt
 false_fits ts (suc n) i = (tt, subst (CloseFits (ProofFits ts n)) (sym (close.outs-False i)) tt)
 
 pub false_accepted : (cert : Cert) (i : ℕ) → cert.root ≡ false_proof i → (ts : List Tree) (goal : List Tree) → cert.asserts ≡ length goal → item (as_items goal) i ≡ Some (Formula False) → Accepts ts cert goal

@@ -10,14 +10,14 @@ use Rattle.proof_conv.specs.Plan.{depths, joined}
 use Rattle.proof_conv.specs.Putting.{Puts, puts_open, puts_split, PutEach, put_none, put_more, before, cases}
 use Rattle.proof_conv.specs.Leaves.{StepsLeave, Leaves, leaves_open, leaves_split, LeaveEach, leave_none, leave_more}
 use Rattle.proof_conv.specs.Accepted.{all_items}
-use Rattle.proof_conv.specs.Conv.{Converter, open_plan, IsOpen, IsCases, all_plans, with_plan, IsThen}
+use Rattle.proof_conv.specs.Conv.{Converter, open_plan, split_plan, all_plans, with_plan, IsThen}
 use Rattle.proof_conv.specs.Leads.{Leads, LeadEach, CasesLead, SplitLeads}
 use Rattle.proof_conv.proofs.Fuel.{steps_then}
 use Rattle.proof_conv.proofs.ClosingLaw.{put_count, leave_count, open_split, same_cases}
 
 -- ---- one place
-pub open_leads : (ts : List Tree) (ss : List Step) (c : Converter) → IsOpen ss c → (goal subgoal : List Tree) → StepsLeave ts (as_items goal) ss (as_items subgoal) → Leads ts c.0 goal (subgoal ∷ [])
-open_leads ts ss c is goal subgoal h = subst (λ x. Leads ts x goal (subgoal ∷ [])) (sym is.0) (leaves_open (as_items subgoal) h refl)
+pub open_leads : (ts : List Tree) (ss : List Step) (o : Option Plan) → o ≡ Some (open_plan ss) → (goal subgoal : List Tree) → StepsLeave ts (as_items goal) ss (as_items subgoal) → Leads ts o goal (subgoal ∷ [])
+open_leads ts ss o is goal subgoal h = subst (λ x. Leads ts x goal (subgoal ∷ [])) (sym is) (leaves_open (as_items subgoal) h refl)
 
 -- ---- a split
 cases_leave : (ts : List Tree) (sss : List (List Step)) (us : Trees) (goal : List Tree) (subgoals : List (List Tree)) → CasesLead ts sss us goal subgoals → LeaveEach ts (map open_plan sss) us (as_items goal) (all_items subgoals)
@@ -28,9 +28,9 @@ cases_leave ts [] (more t us) goal subgoals h = absurd h
 cases_leave ts (ss ∷ sss) none goal subgoals h = absurd h
 cases_leave ts (ss ∷ sss) (more t us) goal [] h = absurd h
 
-pub split_leads : (ts : List Tree) (n : ℕ) (sss : List (List Step)) (c : Converter) → IsCases n sss c → (goal : List Tree) (subgoals : List (List Tree)) → SplitLeads ts n sss goal subgoals → Leads ts c.0 goal subgoals
-split_leads ts n sss c is goal subgoals h =
-    subst (λ x. Leads ts x goal subgoals) (sym is.0)
+pub split_leads : (ts : List Tree) (n : ℕ) (sss : List (List Step)) (o : Option Plan) → o ≡ Some (split_plan n sss) → (goal : List Tree) (subgoals : List (List Tree)) → SplitLeads ts n sss goal subgoals → Leads ts o goal subgoals
+split_leads ts n sss o is goal subgoals h =
+    subst (λ x. Leads ts x goal subgoals) (sym is)
     (leaves_split (as_items goal) n (map open_plan sss) h.first h.others (record { there = tt; run = refl }) refl h.is (cases_leave ts sss (more h.first h.others) goal subgoals h.each))
 
 -- ---- plans in the places of a plan

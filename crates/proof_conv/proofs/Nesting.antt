@@ -4,26 +4,26 @@ use Rattle.tac_cert.specs.declared.cert.Step.{Step}
 use Rattle.proof_conv.specs.declared.plan.Plan.{Plan}
 use Rattle.proof_conv.specs.Plan.{depths, joined}
 use Rattle.proof_conv.specs.Putting.{Puts, puts_open, puts_split, PutEach, put_none, put_more, before, cases}
-use Rattle.proof_conv.specs.Conv.{Converter, open_plan, IsOpen, IsCases, all_plans, with_plan, IsThen}
+use Rattle.proof_conv.specs.Conv.{Converter, open_plan, split_plan, all_plans, with_plan, IsThen}
 use Rattle.proof_conv.specs.Leads.{AtMostEach, NestAtMost, NestEach, raised, deepened, for_each}
 use Rattle.proof_conv.proofs.Levels.{depths-Open, depths-Split, depths-same}
 use Rattle.proof_conv.proofs.ClosingLaw.{put_count}
 
 -- ---- one place, and a split
-pub open_nests : (ss : List Step) (c : Converter) → IsOpen ss c → NestAtMost c.0 (0 ∷ [])
-open_nests ss c is = subst (λ x. NestAtMost x (0 ∷ [])) (sym is.0) (subst (λ ds. AtMostEach ds (0 ∷ [])) (sym (depths-Open (open_plan ss) refl)) (omega arith, tt))
+pub open_nests : (ss : List Step) (o : Option Plan) → o ≡ Some (open_plan ss) → NestAtMost o (0 ∷ [])
+open_nests ss o is = subst (λ x. NestAtMost x (0 ∷ [])) (sym is) (subst (λ ds. AtMostEach ds (0 ∷ [])) (sym (depths-Open (open_plan ss) refl)) (omega arith, tt))
 
 cases_nest : (sss : List (List Step)) → AtMostEach (map suc (joined (map depths (map open_plan sss)))) (for_each 1 sss)
 cases_nest [] = tt
 cases_nest (ss ∷ sss) = subst (λ ds. AtMostEach (map suc (ds ++ joined (map depths (map open_plan sss)))) (1 ∷ for_each 1 sss)) (sym (depths-Open (open_plan ss) refl)) (omega arith, cases_nest sss)
 
-pub split_nests : (n : ℕ) (sss : List (List Step)) (c : Converter) → IsCases n sss c → NestAtMost c.0 (for_each 1 sss)
-split_nests n sss c is = subst (λ x. NestAtMost x (for_each 1 sss)) (sym is.0) (subst (λ ds. AtMostEach ds (for_each 1 sss)) (sym (depths-Split _ n (map open_plan sss) refl)) (cases_nest sss))
+pub split_nests : (n : ℕ) (sss : List (List Step)) (o : Option Plan) → o ≡ Some (split_plan n sss) → NestAtMost o (for_each 1 sss)
+split_nests n sss o is = subst (λ x. NestAtMost x (for_each 1 sss)) (sym is) (subst (λ ds. AtMostEach ds (for_each 1 sss)) (sym (depths-Split (split_plan n sss) n (map open_plan sss) refl)) (cases_nest sss))
 
 -- ---- numbers added to lists
 raised_none : (ms : List ℕ) → raised 0 ms ≡ ms
 raised_none [] = refl
-raised_none (m ∷ ms) = ap (λ u. m ∷ u) (raised_none ms)
+raised_none (m ∷ ms) = let e : 0 + m ≡ m = omega arith in λ i. e i ∷ raised_none ms i
 
 map_both : {X Y : Type 0} (f : X → Y) (xs ys : List X) → map f (xs ++ ys) ≡ map f xs ++ map f ys
 map_both f [] ys = refl
@@ -31,7 +31,7 @@ map_both f (x ∷ xs) ys = ap (λ u. f x ∷ u) (map_both f xs ys)
 
 raised_suc : (n : ℕ) (ms : List ℕ) → map suc (raised n ms) ≡ raised (suc n) ms
 raised_suc n [] = refl
-raised_suc n (m ∷ ms) = ap (λ u. suc (n + m) ∷ u) (raised_suc n ms)
+raised_suc n (m ∷ ms) = let e : suc (n + m) ≡ suc n + m = omega arith in λ i. e i ∷ raised_suc n ms i
 
 deepened_suc : (ns : List ℕ) (mss : List (List ℕ)) → map suc (deepened ns mss) ≡ deepened (map suc ns) mss
 deepened_suc [] mss = refl

@@ -1,7 +1,7 @@
 -- The terms of a closed proof are there.
 use Rattle.std.proofs.Common.{◌≡◌, ℕ, zero, suc, ◌≤◌, List, [], ◌∷◌, ◌++◌, map, All, Option, Some, None, refl, sym, ap, subst, arith}
 use Rattle.std.proofs.lemmas.List.Elements.{All-head, All-tail}
-use Rattle.qterm.specs.Tree.{Tree, Trees}
+use Rattle.qterm.specs.Tree.{Tree, Trees, more}
 use Rattle.tac_cert.specs.Items.{Item}
 use Rattle.tac_cert.specs.declared.cert.Step.{Step}
 use Rattle.tac_cert.specs.declared.cert.Proof.{Proof}

@@ -16,9 +16,11 @@ pub fn by_false(alloc: Global, place: u32, count: u32) -> Cert
     ensures fits { (ts : List Tree) → CertFits ts result }
     ensures flat { nesting result.root ≡ 0 }
 {
+    let steps = Items::new(alloc);
     let root = Proof {
-        steps: Items::new(alloc),
+        steps,
         close: Close::False(place),
     };
-    Cert::new(0, count, root)
+    let cert = Cert::new(0, count, root);
+    cert
 }

@@ -1,0 +1,7 @@
+pub mod Alike
+pub mod Counting
+pub mod Tables
+pub mod Walking
+pub mod Deep
+pub mod Lists
+pub mod Levels
