@@ -1,8 +1,10 @@
 //! The walk over a proof, in preorder.
-ghost use Rattle.std.specs.Prelude.{◌≡◌, ◌≤◌, ◌∷◌, ◌++◌, [], List, IfOk, OnOk, length, All, Some};
+ghost use Rattle.std.specs.Prelude.{◌≡◌, ◌≤◌, ◌∷◌, ◌++◌, [], List, IfOk, IfSome, OnOk, length, All, Some};
+ghost use Rattle.std.specs.Option.{option_map};
 ghost use Rattle.qterm.specs.declared.name.Sort.TheVariants as sort;
 ghost use Rattle.qterm.specs.Tree.{Tree};
 ghost use Rattle.qterm.specs.Store.{Has, HasSort, Extends, tree_at, trees_of};
+ghost use Rattle.cert_items.specs.Held.{kept};
 ghost use Rattle.cert_items.specs.State.{IsState, items_of};
 ghost use Rattle.tac_cert.specs.declared.cert.Close.{out-Close};
 ghost use Rattle.tac_cert.specs.Items.{Formula, formula_at as formula_of};
@@ -221,19 +223,32 @@ fn from_kept(
     ensures tables { OnOk result (AreReady store.new tables.new) }
     ensures extends { Extends store.old store.new }
 {
-    let Some(mut own) = state.kept(alloc, store, numbers)? else {
+    let Some(mut own) = kept_apart(alloc, store, state, numbers)? else {
         return Ok(Walk::Refused(next, RuleWord::Keep));
     };
-    match run(
-        alloc,
-        store,
-        tables,
-        &mut own,
-        next.saturating_add(1),
-        later,
-    )? {
+    let apart = &mut *own;
+    match run(alloc, store, tables, apart, next.saturating_add(1), later)? {
         Ran::Stopped(line, word) => Ok(Walk::Refused(line, word)),
-        Ran::Through(line) => close(alloc, store, tables, left, &mut own, line, end),
+        Ran::Through(line) => close(alloc, store, tables, left, apart, line, end),
+    }
+}
+
+/// The items of these numbers in a state of their own, or nothing where a number has none. It lies on the heap and is made outside of
+/// the frames that stand in one another, since 2,048 splits share a small stack.
+#[inline(never)]
+fn kept_apart(
+    alloc: Global,
+    store: &Store,
+    state: &State,
+    numbers: &[u32],
+) -> Result<Option<Box<State>>, AllocError>
+    requires state { IsState store.now state.now }
+    ensures items { IfOk result (λ o. option_map (λ s. s.items) (option_map (λ b. b.value) o) ≡ kept state.now.items numbers.now) }
+    ensures state { IfOk result (λ o. IfSome o (λ b. IsState store.now b.value)) }
+{
+    match state.kept(alloc, store, numbers)? {
+        None => Ok(None),
+        Some(own) => Ok(Some(Box::new(alloc, own)?)),
     }
 }
 

@@ -1,4 +1,5 @@
 use Rattle.std.proofs.Common.{◌≡◌, ◌∙◌, refl, sym, ap, subst, arith, ◌++◌, ◌∷◌, [], get_or, take, drop, length, ◌<◌, ◌≤◌, ◌-◌}
+use Rattle.std.specs.Option.{option_map}
 use Rattle.std.proofs.lemmas.Result.{IfOk-weaker, on_ok_weaker}
 use Rattle.qterm.specs.Store.{tree_at, trees_of}
 use Rattle.qterm.proofs.Extending.{Extends_trans}
@@ -48,14 +49,14 @@ pub from_kept-returns-in_default-clause-walk : goal.from_kept-returns-in_default
 from_kept-returns-in_default-clause-walk t c =
     let ts = c.args.store.now in
     let items = c.args.state.now.items in
-    ap (λ o. walks.closes (walks.inner ts c.args.left) (walks.keep_then ts c.args.next o c.args.later.now) c.args.end.now) (kept_none ts items c.args.numbers.now c.in_ok-own.field-0 [] c.in_ok-own.ensures.items c.in_default.is)
+    ap (λ o. walks.closes (walks.inner ts c.args.left) (walks.keep_then ts c.args.next o c.args.later.now) c.args.end.now) (kept_none ts items c.args.numbers.now (option_map (λ b. b.value) c.in_ok-own.field-0) [] c.in_ok-own.ensures.items (ap (option_map (λ b. b.value)) c.in_default.is))
 
 pub from_kept-returns-in-Stopped-clause-walk : goal.from_kept-returns-in-Stopped-clause-walk
 from_kept-returns-in-Stopped-clause-walk t c =
     let ts = c.args.store.now in
-    kept_ran ts c.args.left (formulas.kept (items_of ts c.args.state.now) c.args.numbers.now) (items_of ts c.in-Some.own) c.args.next c.saturating_add.result c.args.later.now c.args.end.now (Stopped c.in-Stopped.line c.in-Stopped.word)
-    (kept_some ts c.args.state.now.items c.args.numbers.now c.in_ok-own.field-0 c.in-Some.own c.in_ok-own.ensures.items c.in-Some.is) c.saturating_add.ensures
-    (sym (ap (passed c.run.new.store c.run.new.state) c.in-Stopped.is) ∙ c.in_ok-line.ensures.run)
+    kept_ran ts c.args.left (formulas.kept (items_of ts c.args.state.now) c.args.numbers.now) (items_of ts c.in-Some.own.value) c.args.next c.saturating_add.result c.args.later.now c.args.end.now (Stopped c.in-Stopped.line c.in-Stopped.word)
+    (kept_some ts c.args.state.now.items c.args.numbers.now (option_map (λ b. b.value) c.in_ok-own.field-0) c.in-Some.own.value c.in_ok-own.ensures.items (ap (option_map (λ b. b.value)) c.in-Some.is)) c.saturating_add.ensures
+    (sym (ap (passed c.run.new.store c.run.new.state) c.in-Stopped.is) ∙ c.in_ok-line.ensures.run ∙ ap (λ s. walks.run ts (items_of ts s) c.saturating_add.result c.args.later.now) c.deref_mut-apart.ensures.value)
 
 pub from_kept-close-requires : goal.from_kept-close-requires
 from_kept-close-requires t c =
@@ -65,10 +66,10 @@ pub from_kept-returns-clause-walk : goal.from_kept-returns-clause-walk
 from_kept-returns-clause-walk t c =
     let ts = c.args.store.now in
     let us = c.run.new.store in
-    let kept = kept_some ts c.args.state.now.items c.args.numbers.now c.in_ok-own.field-0 c.in-Some.own c.in_ok-own.ensures.items c.in-Some.is in
+    let kept = kept_some ts c.args.state.now.items c.args.numbers.now (option_map (λ b. b.value) c.in_ok-own.field-0) c.in-Some.own.value c.in_ok-own.ensures.items (ap (option_map (λ b. b.value)) c.in-Some.is) in
     IfOk-weaker c.close.result _ _
-    (λ w h. kept_through ts us c.args.left (formulas.kept (items_of ts c.args.state.now) c.args.numbers.now) (items_of ts c.in-Some.own) (items_of us c.run.new.state) c.args.next c.saturating_add.result c.in-Through.line c.args.later.now c.args.end.now w
-    c.run.ensures.extends c.requires.fits kept c.saturating_add.ensures (sym (ap (passed us c.run.new.state) c.in-Through.is) ∙ c.in_ok-line.ensures.run) h) c.close.ensures.walk
+    (λ w h. kept_through ts us c.args.left (formulas.kept (items_of ts c.args.state.now) c.args.numbers.now) (items_of ts c.in-Some.own.value) (items_of us c.run.new.state) c.args.next c.saturating_add.result c.in-Through.line c.args.later.now c.args.end.now w
+    c.run.ensures.extends c.requires.fits kept c.saturating_add.ensures (sym (ap (passed us c.run.new.state) c.in-Through.is) ∙ c.in_ok-line.ensures.run ∙ ap (λ s. walks.run ts (items_of ts s) c.saturating_add.result c.args.later.now) c.deref_mut-apart.ensures.value) h) c.close.ensures.walk
 
 -- ---- walk
 pub walk-finish-requires : goal.walk-finish-requires

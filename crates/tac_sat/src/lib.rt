@@ -1,0 +1,2 @@
+//! The reducer `sat`.
+#![tactic(auto)]
