@@ -1,2 +1,0 @@
-//! The reducer `sat`.
-#![tactic(auto)]
