@@ -1,4 +1,4 @@
-//! Copies of probes, and names as keys. Rows of texts that are read, refused and written stand in the program `strat_cases`.
+//! Copies of probes, and names as keys. Rows of texts that are read, refused and written stand in `strat_tables`.
 
 use indexmap::IndexSet;
 use std::test::Fail;
