@@ -17,7 +17,8 @@ use Rattle.cert_check.specs.declared.verdict.Walk.{Walk}
 use Rattle.cert_check.specs.Tables.{EndFits, Grows}
 use Rattle.cert_check.specs.Walking.{Passed, Through, Stopped, stepped, run, bump, close_of, closes, inner, walk, is_keep, before_keep, HasNoKeep, keep_then}
 use Rattle.cert_check.proofs.Running.{drop_step, run_stays, walk_is}
-use Rattle.cert_check.proofs.Splitting.{end_stays, end_fits, steps_fit, steps_stay}
+use Rattle.tac_cert.proofs.Staying.{steps_stay}
+use Rattle.cert_check.proofs.Splitting.{end_stays, end_fits, steps_fit}
 
 -- ---- the steps before the first keep
 

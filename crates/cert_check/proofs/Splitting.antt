@@ -7,24 +7,23 @@ use Rattle.qterm.specs.Tree.{Tree}
 use Rattle.qterm.specs.Store.{Extends, HasSort, tree_at, trees_of}
 use Rattle.qterm.proofs.Extending.{Extends_refl}
 use Rattle.qterm.proofs.Fitting.{HasSort_extends}
-use Rattle.tac_cert.specs.declared.cert.Step.{Step}
 use Rattle.tac_cert.specs.declared.cert.Proof.{Proof, out-Proof}
 use Rattle.tac_cert.specs.declared.cert.Close.{out-Close}
 use Rattle.tac_cert.specs.declared.cert.Close.TheOpen.{Close-F}
 use Rattle.tac_cert.specs.Items.{Item, Formula, formula_at}
 use Rattle.tac_cert.specs.Accepts.{Closing, StepsFit, EachFits, CloseFits, ProofFits}
 use Rattle.cert_items.specs.declared.held.Held.{Held}
-use Rattle.cert_items.specs.declared.held.Held.TheVariants as variant
 use Rattle.cert_items.specs.Held.{AllIn, shown_all}
 use Rattle.cert_items.proofs.Bools.{and_left, both_ways}
-use Rattle.cert_items.proofs.Growing.{all_stay, shown_append}
+use Rattle.cert_items.proofs.Growing.{all_stay}
 use Rattle.cert_check.specs.declared.verdict.RuleWord.{RuleWord}
 use Rattle.cert_check.specs.declared.verdict.RuleWord.TheVariants as word
 use Rattle.cert_check.specs.declared.verdict.Walk.{Walk}
 use Rattle.cert_check.specs.declared.verdict.Walk.TheVariants.{Closed, Refused}
 use Rattle.cert_check.specs.Tables.{EndFits}
-use Rattle.cert_check.specs.Walking.{Through, run, close_of, closes, inner, walk, and_then, cases_from, split_of, fits_cases, bump, disjuncts}
-use Rattle.cert_check.proofs.Running.{step_stays, close_stays, walk_stays, walk_is}
+use Rattle.cert_check.specs.Walking.{close_of, inner, walk, and_then, cases_from, split_of, fits_cases, bump, disjuncts}
+use Rattle.tac_cert.proofs.Staying.{steps_stay}
+use Rattle.cert_check.proofs.Running.{close_stays, walk_stays}
 
 same_number : (m n : ℕ) → nat_eq m n ≡ true → m ≡ n
 same_number m n h = grind (arith, nat_tests)
@@ -38,10 +37,6 @@ end_fits ts zero p h = tt
 end_fits ts (suc left) p h = h.1
 
 -- ---- what fits a store fits a longer one
-
-pub steps_stay : (ts us : List Tree) (ss : List Step) → Extends ts us → StepsFit ts ss → StepsFit us ss
-steps_stay ts us [] e h = tt
-steps_stay ts us (s ∷ ss) e h = (step_stays ts us s e h.0, steps_stay ts us ss e h.1)
 
 each_stays : (P Q : Proof → Type 0) (ps : List Proof) → ((p : Proof) → P p → Q p) → EachFits P ps → EachFits Q ps
 each_stays P Q [] f h = tt

@@ -6,3 +6,6 @@ pub mod Naming
 pub mod Bounding
 pub mod States
 pub mod Keeping
+pub mod Given
+pub mod BoundValues
+pub mod Finding

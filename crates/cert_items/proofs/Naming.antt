@@ -1,5 +1,5 @@
 -- A name occurs in the items where its term is one of those below them.
-use Rattle.std.proofs.Common.{◌≡◌, ◌↔◌, IsTrue, ℕ, suc, inl, inr, Bool as Truth, true, false, ◌||◌, List, [], ◌∷◌, ◌++◌, get_or, refl, sym, ap, subst, ◌∙◌, arith, rules}
+use Rattle.std.proofs.Common.{◌≡◌, ◌↔◌, IsTrue, ℕ, suc, inl, inr, Bool as Truth, true, false, not, ◌||◌, List, [], ◌∷◌, ◌++◌, get_or, refl, sym, ap, subst, ◌∙◌, arith, rules}
 use Rattle.std.specs.Prelude.{ℤ}
 use Rattle.std.specs.List.{list_any, Contains}
 use Rattle.std.proofs.lemmas.List.Folds.{list_any-append, list_any_at}
@@ -13,16 +13,16 @@ use Rattle.qlin.specs.Lin.{parts_at}
 use Rattle.qwalk.specs.Subterms.{subterms, subterms_all, subterms_of}
 use Rattle.qwalk.specs.Walk.{same_id}
 use Rattle.qwalk.proofs.Finding.{Contains-trees_of, trees_of-Contains}
-use Rattle.tac_cert.specs.Names.{same_text, among, in_tree, in_trees}
+use Rattle.tac_cert.specs.Names.{same_text, among, in_tree, in_trees, is_int}
 use Rattle.tac_cert.specs.Items.{in_parts, in_bits, in_item, in_items}
 use Rattle.cert_items.specs.declared.held.Held.{Held}
 use Rattle.cert_items.specs.declared.held.Held.TheVariants as variant
 use Rattle.cert_items.specs.Held.{shown, shown_all}
 use Rattle.cert_items.specs.Truth.{with_sort}
 use Rattle.qwalk.specs.Seen.{AreSubterms}
-use Rattle.qwalk.proofs.Seeing.{AreSubterms-within}
-use Rattle.cert_items.specs.Seen.{monomials, roots, all_roots}
-use Rattle.cert_items.proofs.Bools.{or_cases}
+use Rattle.qwalk.proofs.Seeing.{AreSubterms-within, AreSubterms-whole}
+use Rattle.cert_items.specs.Seen.{monomials, roots, all_roots, IsApart}
+use Rattle.cert_items.proofs.Bools.{or_cases, both_ways}
 
 or_none : (b : Truth) → (b || false) ≡ b
 or_none true = refl
@@ -121,6 +121,24 @@ module _ (ns : List Name) where
   seen_any : (ts : List Tree) (hs : List Held) (ks : List ℕ) → AreSubterms ts (all_roots hs) ks → in_items ns (shown_all ts hs) ≡ list_any (named ns) (trees_of ts ks)
   seen_any ts hs ks so =
       in_all_roots ts hs ∙ list_of (trees_of ts (all_roots hs)) ∙ same_any (subterms_of (trees_of ts (all_roots hs))) (trees_of ts ks) so.complete (AreSubterms-within ts (all_roots hs) ks so)
+
+  -- names that aren't in the items are in none of the terms below them
+  pub seen_apart : (ts : List Tree) (hs : List Held) (ks : List ℕ) → AreSubterms ts (all_roots hs) ks → in_items ns (shown_all ts hs) ≡ false → IsApart ts ns ks
+  seen_apart ts hs ks so f k c = by (in_tree ns (tree_at ts k)) refl
+    where
+      whole : AreSubterms ts ks ks
+      whole = AreSubterms-whole ts (all_roots hs) ks so
+
+      none : list_any (in_tree ns) (trees_of ts ks) ≡ false
+      none =
+          list_of (trees_of ts ks) ∙ same_any (subterms_of (trees_of ts ks)) (trees_of ts ks) whole.complete (AreSubterms-within ts ks ks whole)
+          ∙ sym (seen_any ts hs ks so) ∙ f
+
+      by : (b : Truth) → in_tree ns (tree_at ts k) ≡ b → in_tree ns (tree_at ts k) ≡ false
+      by false e = e
+      by true e =
+          let there = Contains-trees_of ts ks k c in
+          absurd (both_ways (list_any (in_tree ns) (trees_of ts ks)) (list_any_at (in_tree ns) (trees_of ts ks) there.0 (tree_at ts k) there.1 (ap (in_tree ns) there.2 ∙ e)) none)
 
 -- ---- one name
 text_same : (m n : Name) → same_text n m ≡ true → m.text ≡ n.text
@@ -265,3 +283,12 @@ none_named (x ∷ xs) = (λ i. none_at x i || none_named xs i)
 
 pub occurs_none : (ts : List Tree) (hs : List Held) → in_items [] (shown_all ts hs) ≡ false
 occurs_none ts hs = items_any [] ts hs ∙ none_named (subterms_of (trees_of ts (all_roots hs)))
+
+-- ---- sorts
+pub bool_sort : (s : Sort) → not (is_int s) ≡ true → s ≡ sort.Bool
+bool_sort sort.Bool h = refl
+bool_sort sort.Int h = cc
+
+pub int_sort : (s : Sort) → is_int s ≡ true → s ≡ sort.Int
+int_sort sort.Int h = refl
+int_sort sort.Bool h = cc

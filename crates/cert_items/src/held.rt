@@ -1,11 +1,11 @@
 //! Items over the terms of a store.
-ghost use Rattle.std.specs.Prelude.{◌≡◌, IfOk};
+ghost use Rattle.std.specs.Prelude.{◌≡◌, ◌∷◌, [], IfOk};
 ghost use Rattle.std.specs.Option.{option_copied};
 ghost use Rattle.cert_items.specs.Held as held;
 
 use qlin::Lin;
 use qterm::{TermId, TermIds};
-use sqlite_items::at;
+use sqlite_items::{Items, at};
 use std::alloc::{AllocError, Global};
 
 /// A word: the value of the form is the number that the bits write, the lowest first. Each bit is a literal or a constant.
@@ -85,4 +85,13 @@ pub(crate) fn copy_at(
         None => Ok(None),
         Some(held) => Ok(Some(copy_held(alloc, held)?)),
     }
+}
+
+/// The list of one item.
+pub fn one(alloc: Global, item: Held) -> Result<Items<Held>, AllocError>
+    ensures { IfOk result (λ items. items ≡ item ∷ []) }
+{
+    let mut items = Items::new(alloc);
+    items.push(item)?;
+    Ok(items)
 }

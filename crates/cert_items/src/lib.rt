@@ -7,12 +7,13 @@
 mod bounds;
 mod held;
 mod names;
+mod numbers;
 mod occurs;
 mod seen;
 mod state;
 
 pub use bounds::Bounds;
-pub use held::{Held, Word, copy_held, formula_at, item, word_at};
+pub use held::{Held, Word, copy_held, formula_at, item, one, word_at};
 pub use names::{all_bool, all_int, distinct, is_int, same_sort};
-pub use occurs::occurs_in;
-pub use state::{State, are_fresh};
+pub use numbers::{narrow, narrow_form};
+pub use state::{State, are_fresh, occurs_in};

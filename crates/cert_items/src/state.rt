@@ -2,7 +2,7 @@
 //!
 //! An item costs the terms that weren't there before. A mark for each item says what there was before it, so that the last items can
 //! be taken back, as after a case, and nothing has to be copied or looked through.
-ghost use Rattle.std.specs.Prelude.{◌≡◌, ◌∷◌, ◌++◌, [], ◌<◌, ◌≤◌, take, length, ◌-◌, ◌||◌, IfOk, IfSome, OnOk, List};
+ghost use Rattle.std.specs.Prelude.{◌≡◌, ◌∷◌, ◌++◌, [], ◌<◌, ◌≤◌, take, length, ◌-◌, ◌||◌, false, IfOk, IfSome, OnOk, List};
 ghost use Rattle.std.specs.List.{list_any};
 ghost use Rattle.qwalk.specs.Walk.{same_id};
 ghost use Rattle.qterm.specs.Tree.{Tree, Var};
@@ -15,10 +15,12 @@ ghost use Rattle.cert_items.specs.Seen.{all_roots, roots};
 ghost use Rattle.cert_items.specs.State.{IsState, IsMarked, items_of, AreBounds, Changed, IsRestored};
 ghost use Rattle.cert_items.specs.Truth.{with_sort};
 ghost use Rattle.tac_cert.specs.Items as lists;
+ghost use Rattle.tac_cert.specs.Names as texts;
 
 use crate::bounds::{BoundMap, Bounds, given_by, tighten};
 use crate::held::{Held, copy_at};
 use crate::names::distinct;
+use crate::occurs::occurs_below;
 use crate::seen::see_item;
 use qterm::{Name, Sort, Store, Term, TermId};
 use qwalk::Seen;
@@ -89,6 +91,8 @@ impl State {
     }
 
     /// The items of those numbers in a state of their own, or nothing where a number has none.
+    ///
+    /// It costs their words, and each distinct subterm of these items once, whatever else this state has.
     pub fn kept(
         &self,
         alloc: Global,
@@ -272,4 +276,23 @@ fn var(alloc: Global, store: &mut Store, name: &Name, sort: Sort) -> Result<Term
 {
     let id = store.intern(Term::Var(Name::new(alloc, name.text(), sort)?))?;
     Ok(id)
+}
+
+/// Whether a name that is in no item occurs in the term, by its bytes.
+///
+/// What the items are made of is not gone into: the cost is in proportion to the term's distinct subterms that are in no item.
+pub fn occurs_in(
+    alloc: Global,
+    store: &Store,
+    state: &State,
+    name: &Name,
+    id: TermId,
+) -> Result<bool, AllocError>
+    requires state { IsState store.now state.now }
+    requires apart { lists.in_items (name.now ∷ []) (items_of store.now state.now) ≡ false }
+    requires has { Has store.now id }
+    ensures { IfOk result (λ b. b ≡ texts.in_tree (name.now ∷ []) (tree_at store.now id)) }
+{
+    let found = occurs_below(alloc, store, &state.seen, name, id)?;
+    Ok(found)
 }

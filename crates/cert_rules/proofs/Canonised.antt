@@ -1,6 +1,5 @@
 -- Canonical forms that were found.
-use Rattle.std.proofs.Common.{◌≡◌, ℕ, Bool as Truth, true, false, List, refl, sym, ap, subst, ◌∙◌, arith, rules, cond, Option, Some, None, Result, Ok, Err, nat_eq, eqb-true}
-use Rattle.std.specs.HashMap.{get}
+use Rattle.std.proofs.Common.{◌≡◌, ℕ, Bool as Truth, true, false, List, refl, sym, ap, subst, ◌∙◌, rules, Option, Some, None, Result, Ok, Err, nat_eq, eqb-true}
 use Rattle.std.specs.Prelude.{OnOk}
 use Rattle.std.specs.declared.alloc.AllocError.{AllocError}
 use Rattle.std.specs.declared.cmp.Ordering.{Ordering}
@@ -9,8 +8,6 @@ use Rattle.std.specs.Ordering.{is_eq}
 use Rattle.qterm.specs.Tree.{Tree}
 use Rattle.qterm.specs.Store.{Has, Extends, IsDistinct, tree_at}
 use Rattle.qterm.proofs.Fitting.{Has_extends}
-use Rattle.qwalk.specs.Walk.{same_id}
-use Rattle.qlin.specs.Canon.{canon}
 use Rattle.qlin.specs.Order.{same, tree_cmp}
 use Rattle.qlin.proofs.Orders.{equal, itself}
 use Rattle.qcanon.specs.declared.forms.Forms.{Forms}

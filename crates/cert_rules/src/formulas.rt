@@ -138,7 +138,7 @@ fn define_fits(
     if !are_fresh(alloc, store, state, &names)? {
         return Ok(false);
     }
-    let occurs = occurs_in(alloc, store, name, term)?;
+    let occurs = occurs_in(alloc, store, state, name, term)?;
     Ok(!occurs)
 }
 

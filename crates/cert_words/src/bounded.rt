@@ -38,7 +38,7 @@ fn are_within(bounds: Bounds, low: i128, up: i128) -> bool
 }
 
 /// The term of a name, if its bounds are within the two numbers.
-#[tactic(auto, using(crate::proofs::Giving::stays, crate::proofs::Giving::bounds_before))]
+#[tactic(auto, using(cert_items::proofs::Finding::stays, crate::proofs::Giving::bounds_before))]
 pub(crate) fn bounded(
     store: &mut Store,
     state: &State,

@@ -1,12 +1,10 @@
 -- Certificates without splits.
-use Rattle.std.proofs.Common.{◌≡◌, ℕ, zero, suc, ◌+◌, ◌≤◌, List, [], ◌∷◌, length, All, Option, Some, None, refl, sym, ap, subst, ◌∙◌, arith}
+use Rattle.std.proofs.Common.{◌≡◌, ℕ, zero, suc, ◌≤◌, List, [], ◌∷◌, length, Option, Some, None, sym, subst, arith}
 use Rattle.std.specs.Option.{IsSome}
 use Rattle.std.proofs.lemmas.List.Elements.{All-head, All-tail}
 use Rattle.qterm.specs.Tree.{Tree, False}
 use Rattle.tac_cert.specs.Items.{Item, Formula, item}
 use Rattle.tac_cert.specs.declared.cert.Cert.{Cert}
-use Rattle.tac_cert.specs.declared.cert.Proof.{Proof}
-use Rattle.tac_cert.specs.declared.cert.Close.{out-Close}
 use Rattle.tac_cert.specs.declared.cert.Close.TheOpen.{Close-F}
 use Rattle.tac_cert.specs.declared.cert.Close.TheVariants as close
 use Rattle.tac_cert.specs.Accepts.{Closes, ClosesBy, Accepts, ProofFits, CloseFits, CertFits, as_items, most_splits}

@@ -1,12 +1,12 @@
 -- What converters lead to, by their plans.
-use Rattle.std.proofs.Common.{◌≡◌, ℕ, List, [], ◌∷◌, ◌++◌, length, map, Option, Some, None, refl, sym, ap, subst, ◌∙◌, arith, append-nil, append_assoc, length-append}
+use Rattle.std.proofs.Common.{◌≡◌, ℕ, List, [], ◌∷◌, ◌++◌, length, map, Option, Some, None, refl, sym, ap, subst, ◌∙◌, arith, append-nil, append_assoc}
 use Rattle.qterm.specs.Tree.{Tree, Trees, none, more}
 use Rattle.tac_cert.specs.Items.{Item}
 use Rattle.tac_cert.specs.declared.cert.Step.{Step}
 use Rattle.tac_cert.specs.Accepts.{as_items}
 use Rattle.proof_conv.specs.declared.plan.Plan.{Plan}
 use Rattle.proof_conv.specs.declared.plan.End.TheVariants as end
-use Rattle.proof_conv.specs.Plan.{depths, joined}
+use Rattle.proof_conv.specs.Plan.{joined}
 use Rattle.proof_conv.specs.Putting.{Puts, puts_open, puts_split, PutEach, put_none, put_more, before, cases}
 use Rattle.proof_conv.specs.Leaves.{StepsLeave, Leaves, leaves_open, leaves_split, LeaveEach, leave_none, leave_more}
 use Rattle.proof_conv.specs.Accepted.{all_items}

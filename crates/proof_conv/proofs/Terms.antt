@@ -1,5 +1,5 @@
 -- The terms of a closed proof are there.
-use Rattle.std.proofs.Common.{◌≡◌, ℕ, zero, suc, ◌≤◌, List, [], ◌∷◌, ◌++◌, map, All, Option, Some, None, refl, sym, ap, subst, arith}
+use Rattle.std.proofs.Common.{ℕ, zero, suc, ◌≤◌, List, [], ◌∷◌, ◌++◌, map, All, Option, Some, None, sym, subst, arith}
 use Rattle.std.proofs.lemmas.List.Elements.{All-head, All-tail}
 use Rattle.qterm.specs.Tree.{Tree, Trees, more}
 use Rattle.tac_cert.specs.Items.{Item}
@@ -12,7 +12,7 @@ use Rattle.tac_cert.specs.declared.cert.Close.TheVariants as close
 use Rattle.tac_cert.specs.Accepts.{Closing, EachFits, StepsFit, CloseFits, ProofFits, CertFits, most_splits}
 use Rattle.proof_conv.specs.declared.plan.Plan.{Plan}
 use Rattle.proof_conv.specs.Putting.{Puts, puts_open, puts_split, PutEach, put_none, put_more, prepend, divide}
-use Rattle.proof_conv.specs.Leaves.{Leaves, leaves_open, leaves_split, LeaveEach, leave_none, leave_more}
+use Rattle.proof_conv.specs.Leaves.{Leaves, leaves_open, leaves_split, LeaveEach, leave_more}
 use Rattle.proof_conv.specs.Conv.{IsClosed, LeavesOf}
 use Rattle.proof_conv.proofs.Fuel.{fits_before}
 use Rattle.proof_conv.proofs.ClosingLaw.{open_split, same_cases}

@@ -2,10 +2,10 @@
 use Rattle.std.specs.Prelude.{◌≡◌, ℕ, ◌+◌, ◌≤◌, List, [], ◌∷◌, ◌++◌, map, Option, Some, None}
 use Rattle.qterm.specs.Tree.{Tree, Trees, Or, none, more}
 use Rattle.tac_cert.specs.declared.cert.Step.{Step}
-use Rattle.tac_cert.specs.Items.{Item, Formula, item}
+use Rattle.tac_cert.specs.Items.{Formula, item}
 use Rattle.tac_cert.specs.Accepts.{as_items}
 use Rattle.proof_conv.specs.declared.plan.Plan.{Plan}
-use Rattle.proof_conv.specs.Plan.{depths, joined}
+use Rattle.proof_conv.specs.Plan.{depths}
 use Rattle.proof_conv.specs.Conv.{Converter}
 use Rattle.proof_conv.specs.Leaves.{StepsLeave, Leaves}
 use Rattle.proof_conv.specs.Accepted.{all_items}

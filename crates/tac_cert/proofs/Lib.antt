@@ -1,1 +1,3 @@
 mod Fitting
+pub mod Staying
+pub mod Sorting

@@ -18,8 +18,8 @@ use Rattle.cert_check.specs.Tables.{passed, Grows}
 use Rattle.cert_check.specs.Walking as walks
 use Rattle.cert_check.specs.Walking.{Stopped}
 use Rattle.cert_check.proofs.Giving.{kept_none, kept_some, state_later}
-use Rattle.cert_check.proofs.Splitting.{end_fits_later, end_fit_stays, end_stays, part_has, case_fits, case_next, case_stops, cases_end, split_taken, split_refused}
-use Rattle.cert_check.proofs.Parting.{fits_later, rest_is, front_is, front_keeps, rest_begins, rest_fits, walk_parts, walk_stopped, kept_first, kept_ran, kept_through, grows_after}
+use Rattle.cert_check.proofs.Splitting.{end_fits_later, end_fit_stays, part_has, case_fits, case_next, case_stops, cases_end, split_taken, split_refused}
+use Rattle.cert_check.proofs.Parting.{fits_later, rest_is, front_is, front_keeps, rest_begins, rest_fits, walk_parts, walk_stopped, kept_ran, kept_through, grows_after}
 use Rattle.cert_check.proofs.walk.+walk.Goals as goal
 
 pub close-returns-then-fits_cases-clause-walk : goal.close-returns-then-fits_cases-clause-walk

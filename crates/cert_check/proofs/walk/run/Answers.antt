@@ -4,7 +4,8 @@ use Rattle.cert_items.specs.State.{items_of}
 use Rattle.cert_check.specs.Tables.{given}
 use Rattle.tac_cert.specs.Gives.{StepFits, gives as gives_at}
 use Rattle.cert_check.specs.Walking.{Stopped, word_of, run, is_keep}
-use Rattle.cert_check.proofs.Running.{run_next, run_stops, steps_get, step_stays}
+use Rattle.tac_cert.proofs.Staying.{step_stays}
+use Rattle.cert_check.proofs.Running.{run_next, run_stops, steps_get}
 use Rattle.cert_check.proofs.Parting.{grows_then, no_keep_at}
 use Rattle.cert_check.proofs.walk.run.Goals as goal
 

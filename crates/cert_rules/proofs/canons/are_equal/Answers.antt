@@ -1,4 +1,4 @@
-use Rattle.std.proofs.Common.{◌≡◌, ◌∙◌, sym, ap, refl, None, Some, subst, Option, ℕ}
+use Rattle.std.proofs.Common.{◌≡◌, Some, subst}
 use Rattle.qterm.specs.Tree.{Tree}
 use Rattle.qterm.specs.Store.{tree_at}
 use Rattle.qlin.specs.Canon.{canon}

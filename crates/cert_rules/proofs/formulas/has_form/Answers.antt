@@ -1,4 +1,4 @@
-use Rattle.std.proofs.Common.{◌∙◌, ap, sym, None, Some, List}
+use Rattle.std.proofs.Common.{◌∙◌, ap, sym, List}
 use Rattle.qterm.specs.Store.{tree_at}
 use Rattle.cert_items.specs.Bounded.{bounds_in}
 use Rattle.cert_items.specs.declared.held.Held.{Held}

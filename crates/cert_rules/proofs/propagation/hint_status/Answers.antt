@@ -1,4 +1,4 @@
-use Rattle.std.proofs.Common.{◌≡◌, ◌∙◌, ap, sym, List, map}
+use Rattle.std.proofs.Common.{◌∙◌, ap, sym, List, map}
 use Rattle.cert_items.specs.Bounded.{bounds_in}
 use Rattle.cert_items.specs.declared.held.Held.{Held}
 use Rattle.cert_items.specs.Held.{item, formula_of}

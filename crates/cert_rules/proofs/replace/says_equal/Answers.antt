@@ -1,9 +1,8 @@
-use Rattle.std.proofs.Common.{◌≡◌, ◌∙◌, ap, sym}
-use Rattle.qterm.specs.Store.{tree_at}
+use Rattle.std.proofs.Common.{◌∙◌}
 use Rattle.cert_items.specs.Bounded.{bounds_in}
 use Rattle.cert_items.proofs.States.{state_noted, state_stays}
 use Rattle.cert_items.proofs.Growing.{all_stay}
-use Rattle.tac_cert.specs.Items.{Item, formula_at}
+use Rattle.tac_cert.specs.Items.{formula_at}
 use Rattle.tac_cert.specs.Formulas.{same_canon}
 use Rattle.qcanon.proofs.Known.{AreForms_extends}
 use Rattle.cert_rules.proofs.replace.says_equal.Goals as goal

@@ -1,4 +1,4 @@
-use Rattle.std.proofs.Common.{◌≡◌, ◌∙◌, ap, sym, rules, List, Some, true}
+use Rattle.std.proofs.Common.{◌≡◌, ◌∙◌, ap, sym, rules, List, true}
 use Rattle.qterm.specs.Store.{tree_at}
 use Rattle.qterm.specs.declared.name.Sort.TheVariants.{Bool}
 use Rattle.qterm.proofs.Fitting.{HasSort_extends}

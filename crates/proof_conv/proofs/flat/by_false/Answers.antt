@@ -1,9 +1,8 @@
 use Rattle.std.proofs.Common.{◌≡◌, ◌∙◌, ap}
-use Rattle.tac_cert.specs.declared.cert.Proof.{Proof}
 use Rattle.tac_cert.specs.declared.cert.Close.TheVariants as close
 use Rattle.proof_conv.specs.Accepted.{nesting}
 use Rattle.proof_conv.specs.Flat.{false_proof}
-use Rattle.proof_conv.proofs.Flatness.{false_flat, false_accepted, false_there}
+use Rattle.proof_conv.proofs.Flatness.{false_flat}
 use Rattle.proof_conv.proofs.flat.by_false.Goals as goal
 
 pub returns-clause-flat : goal.returns-clause-flat

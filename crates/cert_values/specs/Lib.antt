@@ -1,0 +1,4 @@
+pub mod Laws
+pub mod Choices
+pub mod Ranges
+pub mod FewNames
