@@ -30,7 +30,7 @@ impl Watch for Counter {
 }
 
 /// Whether the clauses have a model, and how many lemmas were learnt until that was known.
-#[tactic(auto, using(crate::proofs::Halting::never_halted, sat_core::proofs::Refuting::refuted))]
+#[tactic(auto, using(sat_core::proofs::Halting::never_halted, sat_core::proofs::Refuting::refuted))]
 pub fn decide(alloc: Global, vars: u32, clauses: Vec<Clause>) -> Result<(Answer, u64), AllocError>
     requires in_range { all_below vars clauses.items ≡ true }
     ensures { IfOk result (λ r. IsRight vars clauses.items r.0) }

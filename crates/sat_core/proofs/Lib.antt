@@ -19,3 +19,4 @@ pub mod Heaps
 pub mod Pieces
 pub mod Refuting
 pub mod Restarting
+pub mod Halting

@@ -1,7 +1,5 @@
 pub mod Names
 pub mod Literals
-pub mod Agreeing
-pub mod Searching
 pub mod Meaning
 pub mod TextLines
 pub mod Leaving

@@ -2,7 +2,8 @@
 use Rattle.std.proofs.Common.{◌≡◌, None, ℕ, suc, zero, ◌+◌, ◌<◌, Bool, true, false, List, [], ◌∷◌, ◌++◌, length, get_or, Some, Option, Contains, All, take, refl, sym, ap, subst, ◌∙◌, arith, ◌||◌, true≢false, is_some, unwrap_or}
 use Rattle.std.specs.List.{AllZip, list_any}
 use Rattle.std.proofs.lemmas.List.{take_more}
-use Rattle.std.proofs.lemmas.List.Elements.{All-head, All-tail, All-cons, All-nil}
+use Rattle.std.proofs.lemmas.List.Elements.{All-head, All-tail}
+use Rattle.std.proofs.lemmas.Bool.{lt-ltb}
 use Rattle.qterm.specs.declared.name.Name.{Name}
 use Rattle.qterm.specs.declared.term.Term.{Term}
 use Rattle.qterm.specs.declared.term.Term.TheVariants as term
@@ -11,8 +12,9 @@ use Rattle.qterm.specs.Store.{tree_at, trees_at, trees_of, grow}
 use Rattle.qeval.specs.Value.{Valuation}
 use Rattle.qeval.specs.Eval.{vals, any_of}
 use Rattle.smt_script.specs.Clause.{Literal, literal_in, literals_in, joined, IsClauseOver}
-use Rattle.script_run.specs.declared.clauses.NumberedLiteral.{NumberedLiteral}
-use Rattle.script_run.specs.Clauses.{is_true, IsBelow}
+use Rattle.rup.specs.declared.literal.Lit.{Lit}
+use Rattle.rup.specs.Literals.{lit_true}
+use Rattle.sat_core.specs.Clauses.{below}
 use Rattle.script_run.specs.Numbering.{IsLiteralOver, MeansLiteral, MeansClause, values_by}
 
 pub AllZip-snoc : {A B : Type 0} (R : A → B → Type 0) (xs : List A) (ys : List B) (x : A) (y : B) → AllZip R xs ys → R x y → AllZip R (xs ++ x ∷ []) (ys ++ y ∷ [])
@@ -32,26 +34,26 @@ zip_more R ts is k d ys y h so here =
     rw (take_more is k d h, trees_of-append) (AllZip-snoc R (trees_of ts (take k is)) ys (tree_at ts (get_or is k d)) y so here)
 
 -- the values of terms in a row and of literals that stand for them
-any_means : (V : Valuation) (names : List Name) (ts : List Tree) (is : List ℕ) (clause : List NumberedLiteral) → AllZip (MeansLiteral names) (trees_of ts is) clause
-    → any_of (vals V (trees_at ts is)) ≡ list_any (is_true (values_by V names)) clause
+any_means : (V : Valuation) (names : List Name) (ts : List Tree) (is : List ℕ) (clause : List Lit) → AllZip (MeansLiteral names) (trees_of ts is) clause
+    → any_of (vals V (trees_at ts is)) ≡ list_any (lit_true (values_by V names)) clause
 any_means V names ts [] [] h = refl
 any_means V names ts [] (l ∷ clause) h = absurd h
 any_means V names ts (i ∷ is) [] h = absurd h
 any_means V names ts (i ∷ is) (l ∷ clause) h = rw (h.0.same V, any_means V names ts is clause h.1) refl
 
-all_below : (names : List Name) (ts : List Tree) (is : List ℕ) (clause : List NumberedLiteral) → AllZip (MeansLiteral names) (trees_of ts is) clause → IsBelow (length names) clause
-all_below names ts [] [] h = All-nil (λ (l : NumberedLiteral). l.name < length names)
+all_below : (names : List Name) (ts : List Tree) (is : List ℕ) (clause : List Lit) → AllZip (MeansLiteral names) (trees_of ts is) clause → below (length names) clause ≡ true
+all_below names ts [] [] h = refl
 all_below names ts [] (l ∷ clause) h = absurd h
 all_below names ts (i ∷ is) [] h = absurd h
-all_below names ts (i ∷ is) (l ∷ clause) h = All-cons (λ (l : NumberedLiteral). l.name < length names) l clause h.0.within (all_below names ts is clause h.1)
+all_below names ts (i ∷ is) (l ∷ clause) h = rw (lt-ltb _ _ h.0.within) (all_below names ts is clause h.1)
 
 -- literals that stand for the terms of a disjunction
-pub or_means : (names : List Name) (ts : List Tree) (is : List ℕ) (clause : List NumberedLiteral) → AllZip (MeansLiteral names) (trees_of ts is) clause → MeansClause names (Or (trees_at ts is)) clause
+pub or_means : (names : List Name) (ts : List Tree) (is : List ℕ) (clause : List Lit) → AllZip (MeansLiteral names) (trees_of ts is) clause → MeansClause names (Or (trees_at ts is)) clause
 or_means names ts is clause h = record { below = all_below names ts is clause h; same = λ V. any_means V names ts is clause h }
 
 -- a literal that stands for a term alone
-pub literal_means : (names : List Name) (t : Tree) (l : NumberedLiteral) → MeansLiteral names t l → MeansClause names t (l ∷ [])
-literal_means names t l h = record { below = All-cons (λ (l : NumberedLiteral). l.name < length names) l [] h.within (All-nil (λ (l : NumberedLiteral). l.name < length names)); same = λ V. h.same V ∙ sym (or_false (is_true (values_by V names) l)) }
+pub literal_means : (names : List Name) (t : Tree) (l : Lit) → MeansLiteral names t l → MeansClause names t (l ∷ [])
+literal_means names t l h = record { below = rw (lt-ltb _ _ h.within) refl; same = λ V. h.same V ∙ sym (or_false (lit_true (values_by V names) l)) }
   where
     or_false : (b : Bool) → (b || false) ≡ b
     or_false true = refl

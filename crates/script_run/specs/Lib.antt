@@ -1,5 +1,4 @@
 pub mod Truth
-pub mod Clauses
 pub mod Numbering
 pub mod Texts
 pub mod Session

@@ -1,5 +1,5 @@
 -- Names by their numbers: the place of each in a list of names.
-use Rattle.std.specs.Prelude.{◌≡◌, ℕ, ◌<◌, List, [], length, Some, Contains}
+use Rattle.std.specs.Prelude.{◌≡◌, ℕ, ◌<◌, Bool as Truth, true, List, [], length, Some, Contains}
 use Rattle.std.specs.List.{AllZip}
 use Rattle.std.proofs.Common.{get_or}
 use Rattle.qterm.specs.declared.name.Name.{Name}
@@ -8,8 +8,9 @@ use Rattle.qterm.specs.Tree.{Tree}
 use Rattle.qeval.specs.Value.{Valuation, value_of, bool_of}
 use Rattle.qeval.specs.Eval.{truth}
 use Rattle.smt_script.specs.Clause.{Literal, literal_in}
-use Rattle.script_run.specs.declared.clauses.NumberedLiteral.{NumberedLiteral}
-use Rattle.script_run.specs.Clauses.{Values, is_true, holds, IsBelow}
+use Rattle.rup.specs.declared.literal.Lit.{Lit}
+use Rattle.rup.specs.Literals.{lit_true, clause_true}
+use Rattle.sat_core.specs.Clauses.{below}
 
 -- no name stands twice
 abbrev pub AreDistinct : List Name → Type 0
@@ -24,7 +25,7 @@ abbrev pub name_at : List Name → ℕ → Name
 name_at names i = get_or names i (record { text = []; sort = sort.Bool })
 
 -- the values that a valuation gives the numbered names
-abbrev pub values_by : Valuation → List Name → Values
+abbrev pub values_by : Valuation → List Name → ℕ → Truth
 values_by V names i = bool_of (value_of V (name_at names i))
 
 -- the term is a literal of one of the names
@@ -34,15 +35,15 @@ pub record IsLiteralOver (names : List Name) (t : Tree) : Type 0 where
   pub among : Contains names literal.name
 
 -- the numbered literal has the value of the term under every valuation
-pub record MeansLiteral (names : List Name) (t : Tree) (literal : NumberedLiteral) : Type 0 where
-  pub within : literal.name < length names
-  pub same : (V : Valuation) → truth V t ≡ is_true (values_by V names) literal
+pub record MeansLiteral (names : List Name) (t : Tree) (literal : Lit) : Type 0 where
+  pub within : literal.var < length names
+  pub same : (V : Valuation) → truth V t ≡ lit_true (values_by V names) literal
 
 -- the numbered clause has the value of the term under every valuation
-pub record MeansClause (names : List Name) (t : Tree) (clause : List NumberedLiteral) : Type 0 where
-  pub below : IsBelow (length names) clause
-  pub same : (V : Valuation) → truth V t ≡ holds (values_by V names) clause
+pub record MeansClause (names : List Name) (t : Tree) (clause : List Lit) : Type 0 where
+  pub below : below (length names) clause ≡ true
+  pub same : (V : Valuation) → truth V t ≡ clause_true (values_by V names) clause
 
 -- the numbered clauses have the values of the formulas under every valuation
-abbrev pub MeanClauses : List Name → List Tree → List (List NumberedLiteral) → Type 0
+abbrev pub MeanClauses : List Name → List Tree → List (List Lit) → Type 0
 MeanClauses names ts clauses = AllZip (MeansClause names) ts clauses

@@ -6,7 +6,6 @@
 #![tactic(auto)]
 
 mod answer;
-mod clauses;
 mod numbering;
 mod running;
 mod search;

@@ -5,10 +5,9 @@ ghost use Rattle.qterm.specs.Store.{Has, tree_at, trees_of};
 ghost use Rattle.smt_script.specs.Clause.{IsClauseOver};
 ghost use Rattle.script_run.specs.Numbering as spec;
 
-use crate::clauses::NumberedLiteral;
 use indexmap::IndexSet;
 use qterm::{Name, Store, Term, TermId};
-use sqlite_items::Items;
+use rup::{Clause, Lit};
 use std::alloc::{AllocError, Global};
 
 /// The names as a set, each numbered by its place.
@@ -34,23 +33,33 @@ fn number_of(numbers: &IndexSet<Name>, name: &Name) -> usize
     }
 }
 
-// The literal of a name.
-fn numbered(numbers: &IndexSet<Name>, name: &Name, sign: bool) -> NumberedLiteral
+// The variable of a name. Want of memory stands for a number past 32 bits.
+fn variable_of(numbers: &IndexSet<Name>, name: &Name) -> Result<u32, AllocError>
     requires { Contains numbers.now.keys name.now }
-    ensures number { spec.IsAt numbers.now.keys name.now result.name }
-    ensures sign { result.sign ≡ sign }
+    ensures { IfOk result (spec.IsAt numbers.now.keys name.now) }
 {
-    NumberedLiteral {
-        name: number_of(numbers, name),
-        sign,
+    let number = number_of(numbers, name);
+    if number > u32::MAX as usize {
+        return Err(AllocError);
     }
+    Ok(number as u32)
+}
+
+// The literal of a name.
+fn numbered(numbers: &IndexSet<Name>, name: &Name, positive: bool) -> Result<Lit, AllocError>
+    requires { Contains numbers.now.keys name.now }
+    ensures number { IfOk result (λ literal. spec.IsAt numbers.now.keys name.now literal.var) }
+    ensures sign { IfOk result (λ literal. literal.positive ≡ positive) }
+{
+    let var = variable_of(numbers, name)?;
+    Ok(Lit { var, positive })
 }
 
 // The literal that a term is.
-fn literal_of(store: &Store, numbers: &IndexSet<Name>, id: TermId) -> NumberedLiteral
+fn literal_of(store: &Store, numbers: &IndexSet<Name>, id: TermId) -> Result<Lit, AllocError>
     requires has { Has store.now id }
     requires literal { spec.IsLiteralOver numbers.now.keys (tree_at store.now id) }
-    ensures { spec.MeansLiteral numbers.now.keys (tree_at store.now id) result }
+    ensures { IfOk result (spec.MeansLiteral numbers.now.keys (tree_at store.now id)) }
 {
     match store.view(id) {
         Term::Var(name) => numbered(numbers, name, true),
@@ -68,24 +77,15 @@ fn literals_of(
     store: &Store,
     numbers: &IndexSet<Name>,
     ids: &[TermId],
-) -> Result<Items<NumberedLiteral>, AllocError>
+) -> Result<Vec<Lit>, AllocError>
     requires has { All (Has store.now) ids.now }
     requires literals { All (λ id. spec.IsLiteralOver numbers.now.keys (tree_at store.now id)) ids.now }
-    ensures { IfOk result (λ clause. AllZip (spec.MeansLiteral numbers.now.keys) (trees_of store.now ids.now) clause) }
+    ensures { IfOk result (λ clause. AllZip (spec.MeansLiteral numbers.now.keys) (trees_of store.now ids.now) clause.items) }
 {
-    let mut literals = Items::new(alloc);
+    let mut literals = Vec::new(alloc);
     for id in ids {
-        literals.push(literal_of(store, numbers, *id))?;
+        literals.push(literal_of(store, numbers, *id)?)?;
     }
-    Ok(literals)
-}
-
-// The clause of one literal.
-fn only(alloc: Global, literal: NumberedLiteral) -> Result<Items<NumberedLiteral>, AllocError>
-    ensures { IfOk result (λ clause. clause ≡ literal ∷ []) }
-{
-    let mut literals = Items::new(alloc);
-    literals.push(literal)?;
     Ok(literals)
 }
 
@@ -95,7 +95,7 @@ fn clause_of(
     store: &Store,
     numbers: &IndexSet<Name>,
     id: TermId,
-) -> Result<Items<NumberedLiteral>, AllocError>
+) -> Result<Clause, AllocError>
     requires has { Has store.now id }
     requires clause { IsClauseOver numbers.now.keys (tree_at store.now id) }
     ensures { IfOk result (λ clause. spec.MeansClause numbers.now.keys (tree_at store.now id) clause) }
@@ -103,11 +103,11 @@ fn clause_of(
     match store.view(id) {
         Term::Or(ids) => {
             let literals = literals_of(alloc, store, numbers, ids.as_slice())?;
-            Ok(literals)
+            Ok(Clause::from_vec(literals))
         }
         _ => {
-            let literals = only(alloc, literal_of(store, numbers, id))?;
-            Ok(literals)
+            let literal = literal_of(store, numbers, id)?;
+            Ok(Clause::from_vec(vec![in alloc; literal]?))
         }
     }
 }
@@ -118,12 +118,12 @@ pub(crate) fn clauses_of(
     store: &Store,
     numbers: &IndexSet<Name>,
     ids: &[TermId],
-) -> Result<Items<Items<NumberedLiteral>>, AllocError>
+) -> Result<Vec<Clause>, AllocError>
     requires has { All (Has store.now) ids.now }
     requires clauses { All (λ id. IsClauseOver numbers.now.keys (tree_at store.now id)) ids.now }
-    ensures { IfOk result (λ clauses. spec.MeanClauses numbers.now.keys (trees_of store.now ids.now) clauses) }
+    ensures { IfOk result (λ clauses. spec.MeanClauses numbers.now.keys (trees_of store.now ids.now) clauses.items) }
 {
-    let mut clauses = Items::new(alloc);
+    let mut clauses = Vec::with_capacity(alloc, ids.len())?;
     for id in ids {
         clauses.push(clause_of(alloc, store, numbers, *id)?)?;
     }

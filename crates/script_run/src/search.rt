@@ -1,134 +1,58 @@
-//! A plain search for values that make clauses true.
-//!
-//! It gives the names values in their order, false before true, and goes back as soon as a clause whose last name has just
-//! got its value is false. Wherever a value is true, it keeps that no values with false there make all clauses true; so
-//! where it can't go back any more, none do. What is left to try shrinks with each step, so it ends.
-ghost use Rattle.std.specs.Prelude.{◌≡◌, ◌≤◌, length, true, false, All, map, IfOk, IfSome, IfNone, vec_len, ◌<◌};
-ghost use Rattle.std.specs.Bool.{OnTrue};
+//! Values for names that make clauses true, found by the clause solver.
+ghost use Rattle.std.specs.Prelude.{◌≡◌, length, true, All, map, IfOk, IfSome, IfNone};
 ghost use Rattle.qterm.specs.Store.{Has, tree_at, trees_of};
+ghost use Rattle.sat_core.specs.Clauses.{all_below};
+ghost use Rattle.sat_core.specs.Models.{IsModel, HaveNoModel};
 ghost use Rattle.smt_script.specs.Clause.{IsClauseOver};
 ghost use Rattle.script_run.specs.Truth.{all_true, valuation_of, IsUnsat};
 ghost use Rattle.script_run.specs.Numbering.{AreDistinct};
-ghost use Rattle.script_run.specs.Clauses as spec;
 
 use crate::answer::NameValue;
-use crate::clauses::{NumberedLiteral, all_hold, holds, is_below};
 use crate::numbering::{clauses_of, numbers_of};
 use qterm::{Name, Store, TermId};
+use rup::Clause;
+use sat_core::{Solved, Solver, Watch};
 use sqlite_items::Items;
 use std::alloc::{AllocError, Global};
 
-/// A clause by its place among all clauses, with the last of its names.
-#[derive(Clone, Copy, Debug, PartialEq, Eq, PartialOrd, Ord)]
-struct ByLastName {
-    name: usize,
-    clause: usize,
-}
+/// A watch that goes on at each lemma.
+#[derive(Drop)]
+struct Patient;
 
-// The last name of a clause, 0 where it has none.
-fn last_name(clause: &[NumberedLiteral]) -> usize {
-    let mut last = 0;
-    for literal in clause {
-        last = last.max(literal.name);
+impl Watch for Patient {
+    ghost says = { λ before c goes_on after. goes_on ≡ true };
+
+    fn on_lemma(&mut self, _clause: &Clause) -> bool {
+        true
     }
-    last
 }
 
-// The clauses in the order of their last names.
-fn by_last_name(
-    alloc: Global,
-    clauses: &[Items<NumberedLiteral>],
-) -> Result<Vec<ByLastName>, AllocError> {
-    let mut order = Vec::with_capacity(alloc, clauses.len())?;
-    for (clause, literals) in clauses.iter().enumerate() {
-        let name = last_name(literals.as_slice());
-        order.push(ByLastName { name, clause })?;
-    }
-    order.sort()?;
-    Ok(order)
-}
-
-// Whether there is a clause of this number, and the values give all its names a value and make it false.
-fn is_false(clauses: &[Items<NumberedLiteral>], number: usize, values: &[bool]) -> bool
-    ensures { OnTrue result (spec.NoneBegins clauses.now values.now) }
+// Values of so many variables that make all clauses true, where there are such.
+#[tactic(auto, using(sat_core::proofs::Halting::never_halted, sat_core::proofs::Refuting::refuted))]
+fn solve(alloc: Global, vars: u32, clauses: Vec<Clause>) -> Result<Option<Vec<bool>>, AllocError>
+    requires below { all_below vars clauses.items ≡ true }
+    ensures found { IfOk result (λ found. IfSome found (λ values. IsModel vars clauses.items values.items)) }
+    ensures none { IfOk result (λ found. IfNone found (HaveNoModel clauses.items)) }
 {
-    if number >= clauses.len() {
-        return false;
+    let solver = Solver::new(vars, clauses)?;
+    match solver.solve(alloc, None, &mut Patient)? {
+        Solved::Found(values) => Ok(Some(values)),
+        Solved::Refuted(_) => Ok(None),
+        // There is no limit.
+        Solved::Spent(_) => unreachable!(),
+        // The watch goes on at each lemma.
+        Solved::Halted(_) => unreachable!(),
     }
-    let clause = clauses[number].as_slice();
-    if !is_below(clause, values.len()) || holds(values, clause) {
-        return false;
-    }
-    true
 }
 
-// Whether the last value makes a clause false.
-fn is_refuted(clauses: &[Items<NumberedLiteral>], order: &[ByLastName], values: &[bool]) -> bool
-    ensures { OnTrue result (spec.NoneBegins clauses.now values.now) }
+// How many names there are, where 32 bits can number them.
+fn count_of(names: &[Name]) -> Result<u32, AllocError>
+    ensures { IfOk result (λ count. count ≡ length names.now) }
 {
-    let last = values.len().saturating_sub(1);
-    let from = order.partition_point(|entry| entry.name < last);
-    for entry in &order[from..] {
-        if entry.name != last {
-            return false;
-        }
-        if is_false(clauses, entry.clause, values) {
-            return true;
-        }
+    if names.len() > u32::MAX as usize {
+        return Err(AllocError);
     }
-    false
-}
-
-// Goes on from values that none begin with: takes the last false for true, and leaves out what is behind it. Answers
-// whether there was one.
-fn back(
-    count: usize,
-    clauses: &[Items<NumberedLiteral>],
-    values: &mut Vec<bool>,
-) -> Result<bool, AllocError>
-    requires within { vec_len values.old ≤ count }
-    requires tried { spec.AreTried clauses.now values.old.items }
-    requires none { spec.NoneBegins clauses.now values.old.items }
-    ensures goes { IfOk result (λ yes. yes ≡ true → spec.AreTried clauses.now values.new.items) }
-    ensures within { IfOk result (λ yes. yes ≡ true → vec_len values.new ≤ count) }
-    ensures fewer { IfOk result (λ yes. yes ≡ true → spec.lists_left count values.new.items < spec.lists_left count values.old.items) }
-    ensures ends { IfOk result (λ yes. yes ≡ false → spec.NoneHolds clauses.now) }
-{
-    while let Some(last) = values.pop() {
-        if !last {
-            values.push(true)?;
-            return Ok(true);
-        }
-    }
-    Ok(false)
-}
-
-// Values of so many names that make all clauses true, where there are such.
-fn search_values(
-    alloc: Global,
-    count: usize,
-    clauses: &[Items<NumberedLiteral>],
-    order: &[ByLastName],
-) -> Result<Option<Vec<bool>>, AllocError>
-    requires below { spec.AreBelow count clauses.now }
-    ensures found { IfOk result (λ found. IfSome found (λ values. spec.all_hold (spec.value_at values.items) clauses.now ≡ true)) }
-    ensures whole { IfOk result (λ found. IfSome found (λ values. vec_len values ≡ count)) }
-    ensures none { IfOk result (λ found. IfNone found (spec.NoneHolds clauses.now)) }
-{
-    let mut values: Vec<bool> = Vec::new(alloc);
-    loop {
-        if is_refuted(clauses, order, &values) {
-            if !back(count, clauses, &mut values)? {
-                return Ok(None);
-            }
-        } else if values.len() < count {
-            values.push(false)?;
-        } else if all_hold(&values, clauses) {
-            return Ok(Some(values));
-        } else if !back(count, clauses, &mut values)? {
-            return Ok(None);
-        }
-    }
+    Ok(names.len() as u32)
 }
 
 // The names with their values.
@@ -147,7 +71,7 @@ fn named(alloc: Global, names: &[Name], values: &[bool]) -> Result<Items<NameVal
 }
 
 /// Values of the names, in their order, that make the formulas true, or none where no valuation does. The only error is
-/// want of memory.
+/// want of memory, which also stands for more names or formulas than 32 bits can number.
 pub(crate) fn search(
     alloc: Global,
     store: &Store,
@@ -161,10 +85,10 @@ pub(crate) fn search(
     ensures found { IfOk result (λ found. IfSome found (λ values. all_true (valuation_of values) (trees_of store.now asserts.now) ≡ true)) }
     ensures none { IfOk result (λ found. IfNone found (IsUnsat (trees_of store.now asserts.now))) }
 {
+    let vars = count_of(names)?;
     let numbers = numbers_of(alloc, names)?;
     let clauses = clauses_of(alloc, store, &numbers, asserts)?;
-    let order = by_last_name(alloc, clauses.as_slice())?;
-    match search_values(alloc, names.len(), clauses.as_slice(), &order)? {
+    match solve(alloc, vars, clauses)? {
         None => Ok(None),
         Some(values) => {
             let found = named(alloc, names, &values)?;

@@ -24,4 +24,7 @@ returns-in_ok-literals-in-Or c =
     let ts = c.args.store.now in
     let is = c.as_slice.result.now in
     let tree : tree_at ts c.args.id ≡ Or (trees_at ts is) = grind arith in
-    subst (λ t. MeansClause c.args.numbers.now.keys t c.in_ok-literals-in-Or.literals) (sym tree) (or_means c.args.numbers.now.keys ts is c.in_ok-literals-in-Or.literals c.in_ok-literals-in-Or.ensures)
+    let literals = c.in_ok-literals-in-Or.literals.items in
+    let made : c.from_vec.result ≡ literals = c.from_vec.ensures in
+    let means : MeansClause c.args.numbers.now.keys (tree_at ts c.args.id) literals = subst (λ t. MeansClause c.args.numbers.now.keys t literals) (sym tree) (or_means c.args.numbers.now.keys ts is literals c.in_ok-literals-in-Or.ensures) in
+    subst (MeansClause c.args.numbers.now.keys (tree_at ts c.args.id)) (sym made) means

@@ -11,5 +11,5 @@ loop-id-preserved c =
     let clause = c.in_ok-clause_of.field-0 in
     let within : k < length is = grind arith in
     let here : get_or is k c.id-item.result ≡ c.id-item.result = grind arith in
-    let new : c.push.new.self ≡ c.loop-id.clauses ++ clause ∷ [] = grind arith in
-    rw new (zip_more (MeansClause c.args.numbers.now.keys) ts is k c.id-item.result c.loop-id.clauses clause within c.loop-id.invariant (rw here c.in_ok-clause_of.ensures))
+    let new : c.push.new.self.items ≡ c.loop-id.clauses.items ++ clause ∷ [] = grind arith in
+    rw new (zip_more (MeansClause c.args.numbers.now.keys) ts is k c.id-item.result c.loop-id.clauses.items clause within c.loop-id.invariant (rw here c.in_ok-clause_of.ensures))

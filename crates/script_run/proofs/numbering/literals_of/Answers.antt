@@ -10,5 +10,6 @@ loop-id-preserved c =
     let k = c.loop-id.id-index in
     let within : k < length is = grind arith in
     let here : get_or is k c.id-item.result ≡ c.id-item.result = grind arith in
-    let new : c.push.new.self ≡ c.loop-id.literals ++ c.literal_of.result ∷ [] = grind arith in
-    rw new (zip_more (MeansLiteral c.args.numbers.now.keys) ts is k c.id-item.result c.loop-id.literals c.literal_of.result within c.loop-id.invariant (rw here c.literal_of.ensures))
+    let literal = c.in_ok-literal_of.field-0 in
+    let new : c.push.new.self.items ≡ c.loop-id.literals.items ++ literal ∷ [] = grind arith in
+    rw new (zip_more (MeansLiteral c.args.numbers.now.keys) ts is k c.id-item.result c.loop-id.literals.items literal within c.loop-id.invariant (rw here c.in_ok-literal_of.ensures))

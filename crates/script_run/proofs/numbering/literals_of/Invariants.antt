@@ -5,4 +5,4 @@ use Rattle.script_run.specs.Numbering.{MeansLiteral}
 use Rattle.script_run.proofs.numbering.literals_of.Given as goal
 
 abbrev pub invariant-loop-id : goal.invariant-loop-id
-invariant-loop-id l = AllZip (MeansLiteral l.numbers.keys) (trees_of l.store (take l.id-index l.ids)) l.literals
+invariant-loop-id l = AllZip (MeansLiteral l.numbers.keys) (trees_of l.store (take l.id-index l.ids)) l.literals.items
