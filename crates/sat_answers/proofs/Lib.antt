@@ -1,0 +1,5 @@
+pub mod Naming
+pub mod Coding
+mod Within
+mod Setting
+mod Answering
