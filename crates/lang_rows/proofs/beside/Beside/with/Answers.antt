@@ -1,0 +1,16 @@
+use Rattle.std.proofs.Common.{subst}
+use Rattle.qgoal.specs.Goal.{goal_tree}
+use Rattle.lang_rows.specs.declared.beside.Part.{Part}
+use Rattle.lang_rows.specs.Beside.{IsPart}
+use Rattle.lang_rows.proofs.Adding.{ended_result, stopped_result}
+use Rattle.lang_rows.proofs.beside.Beside.with.Goals as goal
+
+pub returns-in-Ended-clause-beside : goal.returns-in-Ended-clause-beside
+returns-in-Ended-clause-beside c = λ s top ts p r g l ps n goal is next run more same.
+    ended_result c.args.self c.in-Ended.ran c.ended.result c.ended.ensures.grown s top ts p r g l ps n goal is next
+    (subst (λ (x : Part). IsPart s top ts r (goal_tree ts goal) c.args.self.left ps n x) c.in-Ended.is run) more same
+
+pub returns-in-Stopped-clause-beside : goal.returns-in-Stopped-clause-beside
+returns-in-Stopped-clause-beside c = λ s top ts p r g l ps n goal is next run more same.
+    stopped_result c.args.self c.in-Stopped.deriv c.stopped.result c.stopped.ensures.grown s top ts p r g l ps n goal is next
+    (subst (λ (x : Part). IsPart s top ts r (goal_tree ts goal) c.args.self.left ps n x) c.in-Stopped.is run) more same

@@ -1,0 +1,5 @@
+pub mod Joined
+pub mod Rows
+pub mod Ends
+pub mod Beside
+pub mod BesideEnds

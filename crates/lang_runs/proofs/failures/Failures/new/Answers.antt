@@ -1,0 +1,5 @@
+use Rattle.lang_runs.proofs.Trying.{tried_none}
+use Rattle.lang_runs.proofs.failures.Failures.new.Goals as goal
+
+pub returns : goal.returns
+returns c = record { tried = λ setting top ts g ps n. tried_none setting top ts g c.args.limit ps n c.new.result c.new.ensures }

@@ -1,0 +1,4 @@
+pub mod Strategies
+pub mod Runs
+pub mod Forms
+pub mod Nodes

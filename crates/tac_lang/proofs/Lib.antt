@@ -1,0 +1,4 @@
+pub mod MayRun
+pub mod Later
+pub mod Chaining
+pub mod Resting

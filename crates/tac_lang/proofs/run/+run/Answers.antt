@@ -1,0 +1,583 @@
+use Rattle.std.proofs.Common.{◌≡◌, ◌+◌, ◌≤◌, ◌<◌, ◌∷◌, [], length, take, drop, true, refl, sym, ap, subst, ◌∙◌, arith, rules, SFits, None}
+use Rattle.std.specs.Int.{w128}
+use Rattle.std.proofs.lemmas.Int.{to_z-of_z}
+use Rattle.std.proofs.lemmas.List.{take_all}
+use Rattle.qterm.proofs.Extending.{Extends_refl, Extends_trans}
+use Rattle.qgoal.specs.Goal.{GoalTree}
+use Rattle.race_word.proofs.Racers.{keeps_refl, keeps_then}
+use Rattle.strat_text.specs.declared.strategy.Strategy.{Strategy}
+use Rattle.strat_text.specs.declared.strategy.Strategy.TheVariants as strategy
+use Rattle.deriv.specs.Derives.{by_or_else, by_par_or, InOrder}
+use Rattle.lang_runs.specs.Strategies.{runs, AllRun}
+use Rattle.lang_runs.specs.Forms.{Surrounds, params, try_for, no_turn, AreTried}
+use Rattle.lang_runs.specs.Runs.{HasRun, IsRun, IsFailure}
+use Rattle.lang_runs.proofs.Later.{tried_stays, goal_stays}
+use Rattle.tac_lang.specs.Ready.{setting}
+use Rattle.tac_lang.specs.Chain.{rest_of}
+use Rattle.tac_lang.proofs.Chaining.{rank_many, rank_turns, rank_least, rank_most, rest_none, chains_repeat, chains_then, is_repeat, some_is, first_runs, rest_runs, alone_runs, behind_some, then_is, repeat_is}
+use Rattle.tac_lang.proofs.Resting.{within, leaves_less, row_first, row_now, beside_first, beside_now, run_next, failure_next, answer_first, goes_now}
+use Rattle.tac_lang.proofs.MayRun.{may_then, may_repeat, may_par_then, may_prim, may_or_else, may_par_or, may_if, may_when, may_params, may_try_for}
+use Rattle.std.proofs.Common.{List}
+use Rattle.qgoal.specs.Goal.{goal_tree}
+use Rattle.tac_lang.proofs.Later.{stays_shallow, copy_is, copy_has, of_copy, for_copy, ready_later, ready_with, ready_on, ready_below, run_first, failure_first, when_rests, when_surrounds, if_surrounds, chosen_runs, split_here, take_here}
+use Rattle.std.proofs.Common.{All}
+use Rattle.std.specs.Prelude.{is_some}
+use Rattle.qgoal.specs.declared.goal.Goal.{Goal}
+use Rattle.qgoal.specs.Goal.{HasGoal}
+use Rattle.race_word.specs.declared.place.Place.{Place}
+use Rattle.deriv.specs.Outcome.{goal_trees}
+use Rattle.reducer_iface.specs.Depths.{IsShallow}
+use Rattle.lang_runs.specs.declared.ran.Ran.{Ran}
+use Rattle.lang_runs.proofs.Later.{has_goal_stays}
+use Rattle.lang_rows.proofs.Staying.{run_has}
+use Rattle.tac_lang.proofs.Resting.{copied_goes}
+use Rattle.tac_lang.proofs.run.+run.Goals as goal
+
+pub run_around-returns-clause-run : goal.run_around-returns-clause-run
+run_around-returns-clause-run g t c = λ s ps around.
+    let S = setting (g.T.Table.kinds c.args.table.now) g.T.Table.value_of c.args.env.now in
+    let ts = c.args.store.now in let us = c.run_at-ran.new.store in let gl = c.args.goal.now in
+    let e = c.run_at-ran.ensures.store in let has = c.requires.ready.has in let same = c.in_ok-kept.ensures in
+    let kept = c.in_ok-kept.kept in let chain = c.args.racer.now.chain in let v = c.run_at-ran.new.racer.view in
+    let room : c.args.depth ≤ 2048 = (let r = c.requires.ready.room in omega arith) in
+    of_copy ts us gl e has S s c.args.limit ps c.args.depth chain v c.surround.result kept same
+    (c.surround.ensures.run S us s c.args.part.now c.args.env.now.limit ps c.args.env.now.params c.args.depth chain v (copy_has ts us gl e has kept same) room
+    (subst (λ (x : GoalTree). Surrounds S x c.args.limit ps c.args.how s c.args.part.now c.args.env.now.limit c.args.env.now.params) (sym (copy_is ts us gl e has kept same)) around)
+    (for_copy ts us gl e has S c.args.part.now c.args.env.now.limit c.args.env.now.params (c.args.depth + 1) chain v c.run_at-ran.result kept same c.run_at-ran.ensures.run))
+
+pub run_at-returns-then-depth-gt-DEEPEST-clause-run : goal.run_at-returns-then-depth-gt-DEEPEST-clause-run
+run_at-returns-then-depth-gt-DEEPEST-clause-run g t c =
+    let deep : c.args.depth ≡ 2048 + 1 = (let r = c.requires.ready.room in omega arith) in
+    c.stopped.ensures.run (setting (g.T.Table.kinds c.args.table.now) g.T.Table.value_of c.args.env.now) c.args.store.now c.args.strategy.now c.args.env.now.params c.args.depth c.args.racer.now.chain c.args.racer.now.view c.requires.ready.has deep
+
+pub run_at-run_prim-requires-clause-known : goal.run_at-run_prim-requires-clause-known
+run_at-run_prim-requires-clause-known g t c = may_prim (g.T.Table.kinds c.args.table.now) c.args.strategy.now c.in-Prim.name c.requires.runs c.in-Prim.is
+
+pub run_at-run_tries-requires : goal.run_at-run_tries-requires
+run_at-run_tries-requires g t c κs within =
+    let parts = may_or_else (g.T.Table.kinds c.args.table.now) c.args.strategy.now c.in-OrElse.parts c.requires.runs c.in-OrElse.is in
+    let all : AllRun (g.T.Table.kinds c.args.table.now) c.as_slice-in-OrElse.result.now = rw c.as_slice-in-OrElse.ensures parts.0 in
+    let some : 1 ≤ length c.as_slice-in-OrElse.result.now = rw c.as_slice-in-OrElse.ensures (omega (arith, parts.1)) in
+    let room : c.args.depth ≤ 2048 = omega (arith, c.if-depth-gt-DEEPEST.false) in
+    let ready = ready_below c.args.races.now c.args.racer.now c.args.store.now c.args.goal.now c.args.env.now c.args.depth room c.requires.ready in
+    search rules
+
+pub run_at-run_tries-requires-in-ParOr : goal.run_at-run_tries-requires-in-ParOr
+run_at-run_tries-requires-in-ParOr g t c κs within =
+    let parts = may_par_or (g.T.Table.kinds c.args.table.now) c.args.strategy.now c.in-ParOr.parts c.requires.runs c.in-ParOr.is in
+    let all : AllRun (g.T.Table.kinds c.args.table.now) c.as_slice-in-ParOr.result.now = rw c.as_slice-in-ParOr.ensures parts.0 in
+    let some : 1 ≤ length c.as_slice-in-ParOr.result.now = rw c.as_slice-in-ParOr.ensures (omega (arith, parts.1)) in
+    let room : c.args.depth ≤ 2048 = omega (arith, c.if-depth-gt-DEEPEST.false) in
+    let ready = ready_below c.args.races.now c.args.racer.now c.args.store.now c.args.goal.now c.args.env.now c.args.depth room c.requires.ready in
+    search rules
+
+pub run_at-run_if-requires : goal.run_at-run_if-requires
+run_at-run_if-requires g t c κs within =
+    let both = may_if (g.T.Table.kinds c.args.table.now) c.args.strategy.now c.in-If.expr c.in-If.part c.in-If.other c.requires.runs c.in-If.is in
+    let one : runs (g.T.Table.kinds c.args.table.now) c.get-in-If.result.now ≡ true = rw c.get-in-If.ensures both.0 in
+    let two : runs (g.T.Table.kinds c.args.table.now) c.get-in-If-2.result.now ≡ true = rw c.get-in-If-2.ensures both.1 in
+    let room : c.args.depth ≤ 2048 = omega (arith, c.if-depth-gt-DEEPEST.false) in
+    let ready = ready_below c.args.races.now c.args.racer.now c.args.store.now c.args.goal.now c.args.env.now c.args.depth room c.requires.ready in
+    search rules
+
+pub run_at-run_when-requires : goal.run_at-run_when-requires
+run_at-run_when-requires g t c κs within =
+    let one : runs (g.T.Table.kinds c.args.table.now) c.get-in-When.result.now ≡ true = rw c.get-in-When.ensures (may_when (g.T.Table.kinds c.args.table.now) c.args.strategy.now c.in-When.expr c.in-When.part c.requires.runs c.in-When.is) in
+    let room : c.args.depth ≤ 2048 = omega (arith, c.if-depth-gt-DEEPEST.false) in
+    let ready = ready_below c.args.races.now c.args.racer.now c.args.store.now c.args.goal.now c.args.env.now c.args.depth room c.requires.ready in
+    search rules
+
+pub run_at-run_params-requires : goal.run_at-run_params-requires
+run_at-run_params-requires g t c κs within =
+    let both = may_params (g.T.Table.kinds c.args.table.now) c.args.strategy.now c.in-Params.part c.in-Params.settings c.requires.runs c.in-Params.is in
+    let one : runs (g.T.Table.kinds c.args.table.now) c.get-in-Params.result.now ≡ true = rw c.get-in-Params.ensures both.0 in
+    let two = rw (sym c.as_slice-in-Params.ensures) at both.1 in
+    let room : c.args.depth ≤ 2048 = omega (arith, c.if-depth-gt-DEEPEST.false) in
+    let ready = ready_below c.args.races.now c.args.racer.now c.args.store.now c.args.goal.now c.args.env.now c.args.depth room c.requires.ready in
+    search rules
+
+pub run_at-run_try_for-requires : goal.run_at-run_try_for-requires
+run_at-run_try_for-requires g t c κs within =
+    let one : runs (g.T.Table.kinds c.args.table.now) c.get-in-TryFor.result.now ≡ true = rw c.get-in-TryFor.ensures (may_try_for (g.T.Table.kinds c.args.table.now) c.args.strategy.now c.in-TryFor.part c.in-TryFor.most c.requires.runs c.in-TryFor.is) in
+    let room : c.args.depth ≤ 2048 = omega (arith, c.if-depth-gt-DEEPEST.false) in
+    let ready = ready_below c.args.races.now c.args.racer.now c.args.store.now c.args.goal.now c.args.env.now c.args.depth room c.requires.ready in
+    search rules
+
+pub run_at-returns-in-OrElse-clause-run : goal.run_at-returns-in-OrElse-clause-run
+run_at-returns-in-OrElse-clause-run g t c = c.run_tries.ensures.run c.args.strategy.now (by_or_else _ (c.in-OrElse.is ∙ ap strategy.OrElse (sym c.as_slice-in-OrElse.ensures)))
+
+pub run_at-returns-in-ParOr-clause-run : goal.run_at-returns-in-ParOr-clause-run
+run_at-returns-in-ParOr-clause-run g t c = c.run_tries-in-ParOr.ensures.run c.args.strategy.now (by_par_or _ (c.in-ParOr.is ∙ ap strategy.ParOr (sym c.as_slice-in-ParOr.ensures)))
+
+pub run_if-run_around-requires : goal.run_if-run_around-requires
+run_if-run_around-requires g t c κs within =
+    let child : runs (g.T.Table.kinds c.args.table.now) c.chosen-part.result.now ≡ true = chosen_runs (g.T.Table.kinds c.args.table.now) _ c.args.part.now c.args.other.now c.chosen-part.result.now c.chosen-part.ensures c.requires.part c.requires.other in
+    let ready = ready_later c.args.races.now c.args.racer.now c.args.racer.now c.args.store.now c.probe.new.store c.args.goal.now c.args.env.now (c.args.depth + 1) (keeps_refl _) c.in_ok-value.ensures.store c.requires.ready in
+    search rules
+
+pub run_if-returns-clause-run : goal.run_if-returns-clause-run
+run_if-returns-clause-run g t c =
+    let S = setting (g.T.Table.kinds c.args.table.now) g.T.Table.value_of c.args.env.now in
+    let ts = c.args.store.now in let us = c.probe.new.store in let gl = c.args.goal.now in
+    let e = c.in_ok-value.ensures.store in let has = c.requires.ready.has in
+    let fits : SFits w128 c.in_ok-value.value = search rules in
+    let same = to_z-of_z w128 c.in_ok-value.value fits in
+    let around = if_surrounds ts us gl e has S c.args.expr.now c.in_ok-value.value _ same c.in_ok-value.ensures.value c.args.part.now c.args.other.now c.chosen-part.result.now c.args.env.now.limit c.args.env.now.params c.chosen-part.ensures in
+    subst (λ (x : GoalTree). HasRun S c.run_around.new.store (strategy.If c.args.expr.now c.args.part.now c.args.other.now) x c.args.env.now.limit c.args.env.now.params c.args.depth c.args.racer.now.chain c.run_around.new.racer.view c.run_around.result) (goal_stays ts us gl e has)
+    (c.run_around.ensures.run _ c.args.env.now.params around)
+
+pub run_params-returns-clause-run : goal.run_params-returns-clause-run
+run_params-returns-clause-run g t c = c.run_around.ensures.run _ c.args.env.now.params (params c.args.settings.now refl refl c.with_all.ensures.settings)
+
+pub run_try_for-returns-clause-run : goal.run_try_for-returns-clause-run
+run_try_for-returns-clause-run g t c = c.run_around.ensures.run _ c.args.env.now.params (try_for c.args.most refl refl c.lesser.ensures)
+
+pub run_when-run_around-requires : goal.run_when-run_around-requires
+run_when-run_around-requires g t c κs within =
+    let ready = ready_later c.args.races.now c.args.racer.now c.args.racer.now c.args.store.now c.probe.new.store c.args.goal.now c.args.env.now (c.args.depth + 1) (keeps_refl _) c.in_ok-value.ensures.store c.requires.ready in
+    search rules
+
+pub run_tries-run_at-requires : goal.run_tries-run_at-requires
+run_tries-run_at-requires g t c κs within =
+    let ready = ready_later c.args.races.now c.args.racer.now c.loop-part.racer c.args.store.now c.loop-part.store c.args.goal.now c.args.env.now (c.args.depth + 1) c.loop-part.invariant.racer_kept c.loop-part.invariant.store_grows c.requires.ready in
+    let below = ready_with c.args.races.now c.loop-part.racer c.loop-part.store c.args.goal.now c.args.env.now (c.args.depth + 1) c.loop-part.failures.left c.args.env.now.params ready.params ready in
+    search rules
+
+pub run_when-returns-then-is_true-clause-run : goal.run_when-returns-then-is_true-clause-run
+run_when-returns-then-is_true-clause-run g t c =
+    let S = setting (g.T.Table.kinds c.args.table.now) g.T.Table.value_of c.args.env.now in
+    let ts = c.args.store.now in let us = c.probe.new.store in let gl = c.args.goal.now in
+    let e = c.in_ok-value.ensures.store in let has = c.requires.ready.has in
+    let fits : SFits w128 c.in_ok-value.value = search rules in
+    let same = to_z-of_z w128 c.in_ok-value.value fits in
+    let around = when_surrounds ts us gl e has S c.args.expr.now c.in_ok-value.value _ same c.in_ok-value.ensures.value c.args.part.now c.args.env.now.limit c.args.env.now.params c.if-is_true.ensures in
+    subst (λ (x : GoalTree). HasRun S c.run_around.new.store (strategy.When c.args.expr.now c.args.part.now) x c.args.env.now.limit c.args.env.now.params c.args.depth c.args.racer.now.chain c.run_around.new.racer.view c.run_around.result) (goal_stays ts us gl e has)
+    (c.run_around.ensures.run _ c.args.env.now.params around)
+
+pub run_when-returns-clause-run : goal.run_when-returns-clause-run
+run_when-returns-clause-run g t c =
+    let S = setting (g.T.Table.kinds c.args.table.now) g.T.Table.value_of c.args.env.now in
+    let ts = c.args.store.now in let us = c.probe.new.store in let gl = c.args.goal.now in
+    let e = c.in_ok-value.ensures.store in let has = c.requires.ready.has in
+    let fits : SFits w128 c.in_ok-value.value = search rules in
+    let same = to_z-of_z w128 c.in_ok-value.value fits in
+    let room : c.args.depth ≤ 2048 = (let r = c.requires.ready.room in omega arith) in
+    of_copy ts us gl e has S _ c.args.env.now.limit c.args.env.now.params c.args.depth c.args.racer.now.chain c.args.racer.now.view c.rests_alone.result gl refl
+    (c.rests_alone.ensures.run S us _ c.args.env.now.params c.args.depth c.args.racer.now.chain c.args.racer.now.view (copy_has ts us gl e has gl refl) (stays_shallow ts us gl e has c.requires.ready.shallow) room
+    (when_rests ts us gl e has S c.args.expr.now c.in_ok-value.value _ same c.in_ok-value.ensures.value c.args.part.now c.if-is_true.ensures))
+
+pub run_tries-loop-part-init : goal.run_tries-loop-part-init
+run_tries-loop-part-init g t c = record {
+  store_grows = Extends_refl _;
+  racer_kept = keeps_refl _;
+  all_tried = c.new-failures.ensures.tried _ _ _ _ _ _;
+}
+
+pub run_tries-returns-in-Ok-clause-run : goal.run_tries-returns-in-Ok-clause-run
+run_tries-returns-in-Ok-clause-run g t c = λ s order.
+    let S = setting (g.T.Table.kinds c.args.table.now) g.T.Table.value_of c.args.env.now in
+    let ts = c.args.store.now in let mid = c.loop-part.store in let us = c.run_at.new.store in let gl = c.args.goal.now in
+    let e = c.loop-part.invariant.store_grows in let f = c.in-Ok.ensures.store in let has = c.requires.ready.has in let same = c.in_ok-kept.ensures in
+    let whole = Extends_trans ts mid us e f in let v = c.run_at.new.racer.view in
+    let room : c.args.depth ≤ 2048 = (let r = c.requires.ready.room in omega arith) in
+    let i = c.loop-part.part-index in let ps = c.args.parts.now in let part = c.part-item.result in
+    let tried = tried_stays S c.loop-part.racer.view.top v.top mid us (take i ps) (goal_tree ts gl) c.args.env.now.limit c.args.env.now.params (c.args.depth + 1) c.loop-part.failures f c.in-Ok.ensures.racer.top c.loop-part.invariant.all_tried in
+    let run = run_first S ts mid us gl e f has part c.loop-part.failures.left c.args.env.now.params (c.args.depth + 1) v.top c.in-Ok.ran c.in-Ok.ensures.run in
+    let is = sym (copy_is ts us gl whole has c.in_ok-kept.kept same) in
+    of_copy ts us gl whole has S s c.args.env.now.limit c.args.env.now.params c.args.depth c.args.racer.now.chain v c.tried.result c.in_ok-kept.kept same
+    (c.tried.ensures.run S us s part (take i ps) (drop (i + 1) ps) c.args.env.now.params c.args.depth c.args.racer.now.chain v (copy_has ts us gl whole has c.in_ok-kept.kept same) room
+    (subst (λ (xs : List Strategy). InOrder s xs) (split_here ps i part c.loop-part-test.true c.part-item.is) order)
+    (subst (λ (x : GoalTree). AreTried S v.top us (take i ps) x c.args.env.now.limit c.args.env.now.params (c.args.depth + 1) c.loop-part.failures) is tried)
+    (subst (λ (x : GoalTree). IsRun S v.top us part x c.loop-part.failures.left c.args.env.now.params (c.args.depth + 1) c.in-Ok.ran) is run))
+
+pub run_tries-loop-part-preserved : goal.run_tries-loop-part-preserved
+run_tries-loop-part-preserved g t c =
+    let S = setting (g.T.Table.kinds c.args.table.now) g.T.Table.value_of c.args.env.now in
+    let ts = c.args.store.now in let mid = c.loop-part.store in let us = c.run_at.new.store in let gl = c.args.goal.now in
+    let e = c.loop-part.invariant.store_grows in let f = c.in-Err-Failed.ensures.store in let has = c.requires.ready.has in
+    let v = c.run_at.new.racer.view in
+    let i = c.loop-part.part-index in let ps = c.args.parts.now in let part = c.part-item.result in
+    let ran = rw c.in-Err-Failed.field-0-is at c.in-Err-Failed.ensures.run in
+    let tried = tried_stays S c.loop-part.racer.view.top v.top mid us (take i ps) (goal_tree ts gl) c.args.env.now.limit c.args.env.now.params (c.args.depth + 1) c.loop-part.failures f c.in-Err-Failed.ensures.racer.top c.loop-part.invariant.all_tried in
+    let failed = failure_first S ts mid us gl e f has part c.loop-part.failures.left c.args.env.now.params (c.args.depth + 1) v.top c.in-Err-Failed.deriv ran in
+    record {
+      store_grows = Extends_trans ts mid us e f;
+      racer_kept = keeps_then c.loop-part.invariant.racer_kept c.in-Err-Failed.ensures.racer;
+      all_tried = subst (λ (xs : List Strategy). AreTried S v.top us xs (goal_tree ts gl) c.args.env.now.limit c.args.env.now.params (c.args.depth + 1) c.in_ok-failures-in-Err-Failed.failures) (sym (take_here ps i part c.loop-part-test.true c.part-item.is))
+          (c.in_ok-failures-in-Err-Failed.ensures.tried S v.top us (take i ps) part (goal_tree ts gl) c.args.env.now.limit c.args.env.now.params (c.args.depth + 1) tried failed);
+    }
+
+pub run_tries-returns-clause-run : goal.run_tries-returns-clause-run
+run_tries-returns-clause-run g t c = λ s order.
+    let S = setting (g.T.Table.kinds c.args.table.now) g.T.Table.value_of c.args.env.now in
+    let ts = c.args.store.now in let us = c.loop-part.store in let gl = c.args.goal.now in
+    let e = c.loop-part.invariant.store_grows in let has = c.requires.ready.has in let same = c.in_ok-kept.ensures in
+    let kept = c.in_ok-kept.kept in let chain = c.args.racer.now.chain in let v = c.loop-part.racer.view in let ps = c.args.parts.now in
+    let room : c.args.depth ≤ 2048 = (let r = c.requires.ready.room in omega arith) in
+    let whole : take c.loop-part.part-index ps ≡ ps = take_all c.loop-part.part-index ps c.loop-part-test.false in
+    let tried = subst (λ (xs : List Strategy). AreTried S v.top us xs (goal_tree ts gl) c.args.env.now.limit c.args.env.now.params (c.args.depth + 1) c.loop-part.failures) whole c.loop-part.invariant.all_tried in
+    of_copy ts us gl e has S s c.args.env.now.limit c.args.env.now.params c.args.depth chain v c.tried_all.result kept same
+    (c.tried_all.ensures.run S us s ps c.args.env.now.params c.args.depth chain v (copy_has ts us gl e has kept same) room order c.requires.some
+    (subst (λ (x : GoalTree). AreTried S v.top us ps x c.args.env.now.limit c.args.env.now.params (c.args.depth + 1) c.loop-part.failures) (sym (copy_is ts us gl e has kept same)) tried))
+
+pub run_tries-returns-in-Ok-clause-racer : goal.run_tries-returns-in-Ok-clause-racer
+run_tries-returns-in-Ok-clause-racer g t c = keeps_then c.loop-part.invariant.racer_kept c.in-Ok.ensures.racer
+
+pub run_tries-returns-in_err-failures-in-Err-Failed-clause-racer : goal.run_tries-returns-in_err-failures-in-Err-Failed-clause-racer
+run_tries-returns-in_err-failures-in-Err-Failed-clause-racer g t c = keeps_then c.loop-part.invariant.racer_kept c.in-Err-Failed.ensures.racer
+
+pub run_tries-returns-in-Err-Cancelled-clause-racer : goal.run_tries-returns-in-Err-Cancelled-clause-racer
+run_tries-returns-in-Err-Cancelled-clause-racer g t c = keeps_then c.loop-part.invariant.racer_kept c.in-Err-Cancelled.ensures.racer
+
+pub run_tries-returns-in-Err-Memory-clause-racer : goal.run_tries-returns-in-Err-Memory-clause-racer
+run_tries-returns-in-Err-Memory-clause-racer g t c = keeps_then c.loop-part.invariant.racer_kept c.in-Err-Memory.ensures.racer
+
+pub run_at-run_parts-requires : goal.run_at-run_parts-requires
+run_at-run_parts-requires g t c κs within =
+    let parts = may_then (g.T.Table.kinds c.args.table.now) c.args.strategy.now c.in-Then.parts c.requires.runs c.in-Then.is in
+    let all : AllRun (g.T.Table.kinds c.args.table.now) c.as_slice.result.now = rw c.as_slice.ensures parts.0 in
+    let many : 2 ≤ length c.as_slice.result.now = rw c.as_slice.ensures parts.1 in
+    let five = rank_many c.as_slice.result.now None many in
+    let some : 1 ≤ length c.as_slice.result.now = omega (arith, many) in
+    search rules
+
+pub run_at-run_parts-requires-in-Repeat : goal.run_at-run_parts-requires-in-Repeat
+run_at-run_parts-requires-in-Repeat g t c κs within =
+    let one = may_repeat (g.T.Table.kinds c.args.table.now) c.args.strategy.now c.in-Repeat.part c.in-Repeat.turns c.requires.runs c.in-Repeat.is in
+    let runs_one : runs (g.T.Table.kinds c.args.table.now) c.get.result.now ≡ true = rw c.get.ensures one in
+    let all = alone_runs (g.T.Table.kinds c.args.table.now) c.get.result.now c.from_ref.result.now c.from_ref.ensures.value runs_one in
+    let five = rank_turns c.from_ref.result.now c.get.result.now c.in-Repeat.turns c.from_ref.ensures.value in
+    let some : 1 ≤ length c.from_ref.result.now = omega (arith, c.from_ref.ensures.len) in
+    search rules
+
+pub run_at-run_par_then-requires : goal.run_at-run_par_then-requires
+run_at-run_par_then-requires g t c κs within =
+    let both = may_par_then (g.T.Table.kinds c.args.table.now) c.args.strategy.now c.in-ParThen.part c.in-ParThen.other c.requires.runs c.in-ParThen.is in
+    let one : runs (g.T.Table.kinds c.args.table.now) c.get-in-ParThen.result.now ≡ true = rw c.get-in-ParThen.ensures both.0 in
+    let two : runs (g.T.Table.kinds c.args.table.now) c.get-in-ParThen-2.result.now ≡ true = rw c.get-in-ParThen-2.ensures both.1 in
+    let room : c.args.depth ≤ 2048 = omega (arith, c.if-depth-gt-DEEPEST.false) in
+    let ready = ready_below c.args.races.now c.args.racer.now c.args.store.now c.args.goal.now c.args.env.now c.args.depth room c.requires.ready in
+    search rules
+
+pub run_at-returns-in-Then-clause-run : goal.run_at-returns-in-Then-clause-run
+run_at-returns-in-Then-clause-run g t c =
+    let many = (may_then (g.T.Table.kinds c.args.table.now) c.args.strategy.now c.in-Then.parts c.requires.runs c.in-Then.is).1 in
+    subst (λ (x : Strategy). HasRun (setting (g.T.Table.kinds c.args.table.now) g.T.Table.value_of c.args.env.now) c.run_parts.new.store x (goal_tree c.args.store.now c.args.goal.now) c.args.env.now.limit c.args.env.now.params c.args.depth c.args.racer.now.chain c.run_parts.new.racer.view c.run_parts.result)
+    (then_is c.args.strategy.now c.in-Then.parts c.as_slice.result.now c.in-Then.is many c.as_slice.ensures) c.run_parts.ensures.run
+
+pub run_at-returns-in-Repeat-clause-run : goal.run_at-returns-in-Repeat-clause-run
+run_at-returns-in-Repeat-clause-run g t c =
+    subst (λ (x : Strategy). HasRun (setting (g.T.Table.kinds c.args.table.now) g.T.Table.value_of c.args.env.now) c.run_parts-in-Repeat.new.store x (goal_tree c.args.store.now c.args.goal.now) c.args.env.now.limit c.args.env.now.params c.args.depth c.args.racer.now.chain c.run_parts-in-Repeat.new.racer.view c.run_parts-in-Repeat.result)
+    (repeat_is c.args.strategy.now c.in-Repeat.part c.in-Repeat.turns c.from_ref.result.now c.in-Repeat.is (c.from_ref.ensures.value ∙ ap (λ (x : Strategy). x ∷ []) c.get.ensures)) c.run_parts-in-Repeat.ensures.run
+
+pub run_parts-returns-then-depth-gt-DEEPEST-clause-run : goal.run_parts-returns-then-depth-gt-DEEPEST-clause-run
+run_parts-returns-then-depth-gt-DEEPEST-clause-run g t c =
+    let deep : c.args.depth ≡ 2048 + 1 = (let r = c.requires.ready.room in omega arith) in
+    c.stopped.ensures.run (setting (g.T.Table.kinds c.args.table.now) g.T.Table.value_of c.args.env.now) c.args.store.now (rest_of c.args.parts.now c.args.turns) c.args.env.now.params c.args.depth c.args.racer.now.chain c.args.racer.now.view c.requires.ready.has deep
+
+pub run_rest-loop-next-init : goal.run_rest-loop-next-init
+run_rest-loop-next-init g t c = record { store_grows = Extends_refl _; racer_kept = keeps_refl _; same_first = refl; is_row = c.requires.row }
+
+pub run_beside-loop-next-init : goal.run_beside-loop-next-init
+run_beside-loop-next-init g t c = record { store_grows = Extends_refl _; racer_kept = keeps_refl _; are_beside = c.requires.beside }
+
+pub run_chain-is_at_rest-requires-clause-goal : goal.run_chain-is_at_rest-requires-clause-goal
+run_chain-is_at_rest-requires-clause-goal g t c = has_goal_stays c.args.store.now c.run_at.new.store c.args.goal.now c.in-Ok.ensures.store c.requires.ready.has
+
+pub run_chain-is_at_rest-requires-clause-goals : goal.run_chain-is_at_rest-requires-clause-goals
+run_chain-is_at_rest-requires-clause-goals g t c =
+    subst (λ (xs : List Goal). All (HasGoal c.run_at.new.store) xs) (sym c.as_slice.ensures)
+    (run_has (setting (g.T.Table.kinds c.args.table.now) g.T.Table.value_of c.args.env.now) c.run_at.new.racer.view.top c.run_at.new.store c.args.part.now (goal_tree c.args.store.now c.args.goal.now) c.args.env.now.limit c.args.env.now.params (c.args.depth + 1) c.in-Ok.first c.in-Ok.ensures.run)
+
+pub run_chain-returns-then-is_at_rest-clause-run : goal.run_chain-returns-then-is_at_rest-clause-run
+run_chain-returns-then-is_at_rest-clause-run g t c = λ s chains.
+    let S = setting (g.T.Table.kinds c.args.table.now) g.T.Table.value_of c.args.env.now in
+    let ts = c.args.store.now in let us = c.run_at.new.store in let gl = c.args.goal.now in
+    let e = c.in-Ok.ensures.store in let has = c.requires.ready.has in let same = c.in_ok-kept.ensures in
+    let kept = c.in_ok-kept.kept in let chain = c.args.racer.now.chain in let v = c.run_at.new.racer.view in
+    let room : c.args.depth ≤ 2048 = (let r = c.requires.ready.room in omega arith) in
+    let rest = c.if-is_at_rest.ensures in
+    let k = is_repeat s c.args.part.now (rest_of c.args.rest.now c.args.turns) (is_some c.args.turns) (some_is c.args.turns rest.0) chains in
+    of_copy ts us gl e has S s c.args.env.now.limit c.args.env.now.params c.args.depth chain v c.rests.result kept same
+    (c.rests.ensures.run S us s c.args.part.now k.0 c.args.env.now.params c.args.depth chain v (copy_has ts us gl e has kept same) room k.1 k.2
+    (subst (λ (x : GoalTree). IsRun S v.top us c.args.part.now x c.args.env.now.limit c.args.env.now.params (c.args.depth + 1) c.in-Ok.first) (sym (copy_is ts us gl e has kept same)) c.in-Ok.ensures.run)
+    (ap (goal_trees us) (sym c.as_slice.ensures) ∙ rest.1 ∙ ap (λ (x : Goal). goal_tree us x ∷ []) (sym same)))
+
+pub run_chain-returns-else-is_at_rest-clause-run : goal.run_chain-returns-else-is_at_rest-clause-run
+run_chain-returns-else-is_at_rest-clause-run g t c = λ s chains.
+    let S = setting (g.T.Table.kinds c.args.table.now) g.T.Table.value_of c.args.env.now in
+    let ts = c.args.store.now in let us = c.run_at.new.store in let gl = c.args.goal.now in
+    let e = c.in-Ok.ensures.store in let has = c.requires.ready.has in let same = c.in_ok-kept.ensures in
+    let kept = c.in_ok-kept.kept in let w = c.run_rest.new.racer.view in
+    subst (λ (x : GoalTree). HasRun S c.run_rest.new.store s x c.args.env.now.limit c.args.env.now.params c.args.depth c.args.racer.now.chain w c.run_rest.result) (copy_is ts us gl e has kept same)
+    (subst (λ (x : List Place). HasRun S c.run_rest.new.store s (goal_tree us kept) c.args.env.now.limit c.args.env.now.params c.args.depth x w c.run_rest.result) c.in-Ok.ensures.racer.chain
+    (c.run_rest.ensures.run s chains))
+
+pub run_chain-run_rest-requires : goal.run_chain-run_rest-requires
+run_chain-run_rest-requires g t c κs within =
+    let S = setting (g.T.Table.kinds c.args.table.now) g.T.Table.value_of c.args.env.now in
+    let ts = c.args.store.now in let us = c.run_at.new.store in let gl = c.args.goal.now in
+    let e = c.in-Ok.ensures.store in let has = c.requires.ready.has in let same = c.in_ok-kept.ensures in
+    let kept = c.in_ok-kept.kept in let v = c.run_at.new.racer.view in
+    let later = ready_later c.args.races.now c.args.racer.now c.run_at.new.racer ts us gl c.args.env.now (c.args.depth + 1) c.in-Ok.ensures.racer e c.requires.ready in
+    let ready = ready_on c.args.races.now c.run_at.new.racer us gl kept c.args.env.now (c.args.depth + 1) (copy_has ts us gl e has kept same) (subst (λ (x : Goal). IsShallow (goal_tree us x)) (sym same) later.shallow) later in
+    let row = c.new-row.ensures.row S v.top us c.args.part.now (rest_of c.args.rest.now c.args.turns) (goal_tree us kept) c.args.env.now.params (c.args.depth + 1)
+    (subst (λ (x : GoalTree). IsRun S v.top us c.args.part.now x c.args.env.now.limit c.args.env.now.params (c.args.depth + 1) c.in-Ok.first) (sym (copy_is ts us gl e has kept same)) c.in-Ok.ensures.run) in
+    let goes = copied_goes us gl kept (is_some c.args.turns) c.in-Ok.first c.new-row.result.first c.as_slice.result.now same c.new-row.ensures.first c.as_slice.ensures c.if-is_at_rest.ensures in
+    search rules
+
+pub run_chain-returns-in-Err-Failed-clause-run : goal.run_chain-returns-in-Err-Failed-clause-run
+run_chain-returns-in-Err-Failed-clause-run g t c = λ s chains.
+    let S = setting (g.T.Table.kinds c.args.table.now) g.T.Table.value_of c.args.env.now in
+    let ts = c.args.store.now in let us = c.run_at.new.store in let gl = c.args.goal.now in
+    let e = c.in-Err-Failed.ensures.store in let has = c.requires.ready.has in let same = c.in_ok-kept.ensures in
+    let kept = c.in_ok-kept.kept in let chain = c.args.racer.now.chain in let v = c.run_at.new.racer.view in
+    let room : c.args.depth ≤ 2048 = (let r = c.requires.ready.room in omega arith) in
+    let ran = rw c.in-Err-Failed.field-0-is at c.in-Err-Failed.ensures.run in
+    of_copy ts us gl e has S s c.args.env.now.limit c.args.env.now.params c.args.depth chain v c.first_failed.result kept same
+    (c.first_failed.ensures.run S us s c.args.part.now (rest_of c.args.rest.now c.args.turns) (is_some c.args.turns) c.args.env.now.params c.args.depth chain v (copy_has ts us gl e has kept same) room chains
+    (rw c.in-Err-Failed.field-0-is (subst (λ (x : GoalTree). IsFailure S v.top us c.args.part.now x c.args.env.now.limit c.args.env.now.params (c.args.depth + 1) c.in-Err-Failed.first) (sym (copy_is ts us gl e has kept same)) ran)))
+
+pub run_rest-run_parts-requires : goal.run_rest-run_parts-requires
+run_rest-run_parts-requires g t c κs within =
+    let S = setting (g.T.Table.kinds c.args.table.now) g.T.Table.value_of c.args.env.now in
+    let ts = c.args.store.now in let mid = c.loop-next.store in let gl = c.args.goal in let next = c.in-Some.next.now in
+    let fit = c.in-Some.ensures.fits S c.loop-next.racer.view.top mid c.args.part.now (rest_of c.args.rest.now c.args.turns) (goal_tree ts gl) c.args.env.now.limit c.args.env.now.params (c.args.depth + 1) c.loop-next.invariant.is_row in
+    let later = ready_later c.args.races.now c.args.racer.now c.loop-next.racer ts mid gl c.args.env.now (c.args.depth + 1) c.loop-next.invariant.racer_kept c.loop-next.invariant.store_grows c.requires.ready in
+    let here = ready_on c.args.races.now c.loop-next.racer mid gl next c.args.env.now (c.args.depth + 1) fit.0 fit.1 later in
+    let below = ready_with c.args.races.now c.loop-next.racer mid next c.args.env.now (c.args.depth + 1) c.loop-next.row.left c.args.env.now.params here.params here in
+    let most = rank_most c.args.rest.now c.args.turns in
+    search rules
+
+pub run_rest-loop-next-preserved : goal.run_rest-loop-next-preserved
+run_rest-loop-next-preserved g t c =
+    let S = setting (g.T.Table.kinds c.args.table.now) g.T.Table.value_of c.args.env.now in
+    let ts = c.args.store.now in let mid = c.loop-next.store in let us = c.run_parts.new.store in let gl = c.args.goal in let next = c.in-Some.next.now in
+    let i = c.loop-next.invariant in let e = i.store_grows in let f = c.in-Ok.ensures.store in let has = c.requires.ready.has in
+    let v = c.run_parts.new.racer.view in let r = rest_of c.args.rest.now c.args.turns in let l = c.args.env.now.limit in let ps = c.args.env.now.params in let n = c.args.depth + 1 in
+    let fit = c.in-Some.ensures.fits S c.loop-next.racer.view.top mid c.args.part.now r (goal_tree ts gl) l ps n i.is_row in
+    record {
+      store_grows = Extends_trans ts mid us e f;
+      racer_kept = keeps_then i.racer_kept c.in-Ok.ensures.racer;
+      same_first = c.in_ok-row-in-Ok.ensures.grows.0 ∙ i.same_first;
+      is_row = c.in_ok-row-in-Ok.ensures.row S v.top us c.args.part.now r (goal_tree ts gl) l ps n next
+          (row_first S ts mid us e f gl has c.loop-next.racer.view.top v.top c.in-Ok.ensures.racer.top l ps n c.args.part.now r c.loop-next.row i.is_row) c.in-Some.ensures.next
+          (run_next S mid us next r c.loop-next.row.left ps n v.top c.in-Ok.ran f fit.0 c.in-Ok.ensures.run) (sym (c.if-is_sat.ensures.sat us));
+    }
+
+pub run_rest-loop-next-smaller : goal.run_rest-loop-next-smaller
+run_rest-loop-next-smaller g t c = leaves_less _ _ _ _ (within _ _ _ c.in-Some.ensures.next) (ap (λ (x : Ran). length x.goals) c.in_ok-row-in-Ok.ensures.grows.0) c.in_ok-row-in-Ok.ensures.grows.1
+
+pub run_rest-returns-then-is_sat-clause-run : goal.run_rest-returns-then-is_sat-clause-run
+run_rest-returns-then-is_sat-clause-run g t c = λ s chains.
+    let S = setting (g.T.Table.kinds c.args.table.now) g.T.Table.value_of c.args.env.now in
+    let ts = c.args.store.now in let mid = c.loop-next.store in let us = c.run_parts.new.store in let gl = c.args.goal in let next = c.in-Some.next.now in
+    let i = c.loop-next.invariant in let e = i.store_grows in let f = c.in-Ok.ensures.store in let has = c.requires.ready.has in let whole = Extends_trans ts mid us e f in
+    let v = c.run_parts.new.racer.view in let r = rest_of c.args.rest.now c.args.turns in let l = c.args.env.now.limit in let ps = c.args.env.now.params in let n = c.args.depth + 1 in
+    let chain = c.args.racer.now.chain in let p = c.args.part.now in
+    let room : c.args.depth ≤ 2048 = (let r = c.requires.ready.room in omega arith) in
+    let fit = c.in-Some.ensures.fits S c.loop-next.racer.view.top mid p r (goal_tree ts gl) l ps n i.is_row in
+    answer_first S ts us gl s l ps c.args.depth chain v c.finish_sat.result whole has
+    (c.finish_sat.ensures.run S us s p r (is_some c.args.turns) ps c.args.depth chain v next (copy_has ts us gl whole has gl refl) room chains
+    (goes_now S c.args.racer.now.view.top ts us gl (is_some c.args.turns) p (goal_tree ts gl) l ps n c.args.row.first c.loop-next.row.first whole has c.requires.row.first i.same_first c.requires.goes)
+    (row_now S ts mid us e f gl has c.loop-next.racer.view.top v.top c.in-Ok.ensures.racer.top l ps n p r c.loop-next.row i.is_row) c.in-Some.ensures.next
+    (run_next S mid us next r c.loop-next.row.left ps n v.top c.in-Ok.ran f fit.0 c.in-Ok.ensures.run) (sym (c.if-is_sat.ensures.sat us)))
+
+pub run_rest-returns-in-Err-Failed-clause-run : goal.run_rest-returns-in-Err-Failed-clause-run
+run_rest-returns-in-Err-Failed-clause-run g t c = λ s chains.
+    let S = setting (g.T.Table.kinds c.args.table.now) g.T.Table.value_of c.args.env.now in
+    let ts = c.args.store.now in let mid = c.loop-next.store in let us = c.run_parts.new.store in let gl = c.args.goal in let next = c.in-Some.next.now in
+    let i = c.loop-next.invariant in let e = i.store_grows in let f = c.in-Err-Failed.ensures.store in let has = c.requires.ready.has in let whole = Extends_trans ts mid us e f in
+    let v = c.run_parts.new.racer.view in let r = rest_of c.args.rest.now c.args.turns in let l = c.args.env.now.limit in let ps = c.args.env.now.params in let n = c.args.depth + 1 in
+    let chain = c.args.racer.now.chain in let p = c.args.part.now in
+    let room : c.args.depth ≤ 2048 = (let r = c.requires.ready.room in omega arith) in
+    let fit = c.in-Some.ensures.fits S c.loop-next.racer.view.top mid p r (goal_tree ts gl) l ps n i.is_row in
+    let ran = rw c.in-Err-Failed.field-0-is at c.in-Err-Failed.ensures.run in
+    answer_first S ts us gl s l ps c.args.depth chain v c.finish_failed.result whole has
+    (c.finish_failed.ensures.run S us s p r (is_some c.args.turns) ps c.args.depth chain v next (copy_has ts us gl whole has gl refl) room chains
+    (goes_now S c.args.racer.now.view.top ts us gl (is_some c.args.turns) p (goal_tree ts gl) l ps n c.args.row.first c.loop-next.row.first whole has c.requires.row.first i.same_first c.requires.goes)
+    (row_now S ts mid us e f gl has c.loop-next.racer.view.top v.top c.in-Err-Failed.ensures.racer.top l ps n p r c.loop-next.row i.is_row) c.in-Some.ensures.next
+    (rw c.in-Err-Failed.field-0-is (failure_next S mid us next r c.loop-next.row.left ps n v.top c.in-Err-Failed.last f fit.0 ran)))
+
+pub run_rest-returns-clause-run : goal.run_rest-returns-clause-run
+run_rest-returns-clause-run g t c = λ s chains.
+    let S = setting (g.T.Table.kinds c.args.table.now) g.T.Table.value_of c.args.env.now in
+    let ts = c.args.store.now in let us = c.loop-next.store in let gl = c.args.goal in
+    let i = c.loop-next.invariant in let e = i.store_grows in let has = c.requires.ready.has in
+    let v = c.loop-next.racer.view in let r = rest_of c.args.rest.now c.args.turns in let l = c.args.env.now.limit in let ps = c.args.env.now.params in let n = c.args.depth + 1 in
+    let chain = c.args.racer.now.chain in let p = c.args.part.now in
+    let room : c.args.depth ≤ 2048 = (let r = c.requires.ready.room in omega arith) in
+    answer_first S ts us gl s l ps c.args.depth chain v c.finish.result e has
+    (c.finish.ensures.run S us s p r (is_some c.args.turns) ps c.args.depth chain v (copy_has ts us gl e has gl refl) room chains
+    (goes_now S c.args.racer.now.view.top ts us gl (is_some c.args.turns) p (goal_tree ts gl) l ps n c.args.row.first c.loop-next.row.first e has c.requires.row.first i.same_first c.requires.goes)
+    (row_now S ts us us e (Extends_refl us) gl has v.top v.top (omega arith) l ps n p r c.loop-next.row i.is_row) c.in_default.ensures.next)
+
+pub run_par_then-returns-in-Ok-clause-run : goal.run_par_then-returns-in-Ok-clause-run
+run_par_then-returns-in-Ok-clause-run g t c =
+    let S = setting (g.T.Table.kinds c.args.table.now) g.T.Table.value_of c.args.env.now in
+    let ts = c.args.store.now in let us = c.run_at.new.store in let gl = c.args.goal.now in
+    let e = c.in-Ok.ensures.store in let has = c.requires.ready.has in let same = c.in_ok-kept.ensures in
+    let kept = c.in_ok-kept.kept in let w = c.run_beside.new.racer.view in let s = strategy.ParThen c.args.part.now c.args.other.now in
+    subst (λ (x : GoalTree). HasRun S c.run_beside.new.store s x c.args.env.now.limit c.args.env.now.params c.args.depth c.args.racer.now.chain w c.run_beside.result) (copy_is ts us gl e has kept same)
+    (subst (λ (x : List Place). HasRun S c.run_beside.new.store s (goal_tree us kept) c.args.env.now.limit c.args.env.now.params c.args.depth x w c.run_beside.result) c.in-Ok.ensures.racer.chain
+    c.run_beside.ensures.run)
+
+pub run_par_then-run_beside-requires : goal.run_par_then-run_beside-requires
+run_par_then-run_beside-requires g t c κs within =
+    let S = setting (g.T.Table.kinds c.args.table.now) g.T.Table.value_of c.args.env.now in
+    let ts = c.args.store.now in let us = c.run_at.new.store in let gl = c.args.goal.now in
+    let e = c.in-Ok.ensures.store in let has = c.requires.ready.has in let same = c.in_ok-kept.ensures in
+    let kept = c.in_ok-kept.kept in let v = c.run_at.new.racer.view in
+    let later = ready_later c.args.races.now c.args.racer.now c.run_at.new.racer ts us gl c.args.env.now (c.args.depth + 1) c.in-Ok.ensures.racer e c.requires.ready in
+    let ready = ready_on c.args.races.now c.run_at.new.racer us gl kept c.args.env.now (c.args.depth + 1) (copy_has ts us gl e has kept same) (subst (λ (x : Goal). IsShallow (goal_tree us x)) (sym same) later.shallow) later in
+    let beside = c.new-beside.ensures.beside S v.top us c.args.part.now c.args.other.now (goal_tree us kept) c.args.env.now.params (c.args.depth + 1)
+    (subst (λ (x : GoalTree). IsRun S v.top us c.args.part.now x c.args.env.now.limit c.args.env.now.params (c.args.depth + 1) c.in-Ok.first) (sym (copy_is ts us gl e has kept same)) c.in-Ok.ensures.run) in
+    search rules
+
+pub run_par_then-returns-in-Err-Failed-clause-run : goal.run_par_then-returns-in-Err-Failed-clause-run
+run_par_then-returns-in-Err-Failed-clause-run g t c =
+    let S = setting (g.T.Table.kinds c.args.table.now) g.T.Table.value_of c.args.env.now in
+    let ts = c.args.store.now in let us = c.run_at.new.store in let gl = c.args.goal.now in
+    let e = c.in-Err-Failed.ensures.store in let has = c.requires.ready.has in let same = c.in_ok-kept.ensures in
+    let kept = c.in_ok-kept.kept in let chain = c.args.racer.now.chain in let v = c.run_at.new.racer.view in let s = strategy.ParThen c.args.part.now c.args.other.now in
+    let room : c.args.depth ≤ 2048 = (let r = c.requires.ready.room in omega arith) in
+    let ran = rw c.in-Err-Failed.field-0-is at c.in-Err-Failed.ensures.run in
+    of_copy ts us gl e has S s c.args.env.now.limit c.args.env.now.params c.args.depth chain v c.beside_first_failed.result kept same
+    (c.beside_first_failed.ensures.run S us s c.args.part.now c.args.other.now c.args.env.now.params c.args.depth chain v (copy_has ts us gl e has kept same) room refl
+    (subst (λ (x : GoalTree). IsFailure S v.top us c.args.part.now x c.args.env.now.limit c.args.env.now.params (c.args.depth + 1) c.in-Err-Failed.first) (sym (copy_is ts us gl e has kept same)) ran))
+
+pub run_beside-run_at-requires : goal.run_beside-run_at-requires
+run_beside-run_at-requires g t c κs within =
+    let S = setting (g.T.Table.kinds c.args.table.now) g.T.Table.value_of c.args.env.now in
+    let ts = c.args.store.now in let mid = c.loop-next.store in let gl = c.args.goal in let next = c.in-Some.next.now in
+    let fit = c.in-Some.ensures.fits S c.loop-next.racer.view.top mid c.args.part.now c.args.other.now (goal_tree ts gl) c.args.env.now.limit c.args.env.now.params (c.args.depth + 1) c.loop-next.invariant.are_beside in
+    let later = ready_later c.args.races.now c.args.racer.now c.loop-next.racer ts mid gl c.args.env.now (c.args.depth + 1) c.loop-next.invariant.racer_kept c.loop-next.invariant.store_grows c.requires.ready in
+    let here = ready_on c.args.races.now c.loop-next.racer mid gl next c.args.env.now (c.args.depth + 1) fit.0 fit.1 later in
+    let below = ready_with c.args.races.now c.loop-next.racer mid next c.args.env.now (c.args.depth + 1) c.loop-next.beside.left c.args.env.now.params here.params here in
+    search rules
+
+pub run_beside-returns-clause-run : goal.run_beside-returns-clause-run
+run_beside-returns-clause-run g t c =
+    let S = setting (g.T.Table.kinds c.args.table.now) g.T.Table.value_of c.args.env.now in
+    let ts = c.args.store.now in let us = c.loop-next.store in let gl = c.args.goal in let s = strategy.ParThen c.args.part.now c.args.other.now in
+    let i = c.loop-next.invariant in let e = i.store_grows in let has = c.requires.ready.has in
+    let v = c.loop-next.racer.view in let l = c.args.env.now.limit in let ps = c.args.env.now.params in let n = c.args.depth + 1 in
+    let chain = c.args.racer.now.chain in
+    let room : c.args.depth ≤ 2048 = (let r = c.requires.ready.room in omega arith) in
+    answer_first S ts us gl s l ps c.args.depth chain v c.finish_beside.result e has
+    (c.finish_beside.ensures.run S us s c.args.part.now c.args.other.now ps c.args.depth chain v (copy_has ts us gl e has gl refl) room refl
+    (beside_now S ts us us e (Extends_refl us) gl has v.top v.top (omega arith) l ps n c.args.part.now c.args.other.now c.loop-next.beside i.are_beside) c.in_default.ensures.next)
+
+pub run_beside-returns-then-is_sat-clause-run : goal.run_beside-returns-then-is_sat-clause-run
+run_beside-returns-then-is_sat-clause-run g t c =
+    let S = setting (g.T.Table.kinds c.args.table.now) g.T.Table.value_of c.args.env.now in
+    let ts = c.args.store.now in let mid = c.loop-next.store in let us = c.run_at.new.store in let gl = c.args.goal in let next = c.in-Some.next.now in let s = strategy.ParThen c.args.part.now c.args.other.now in
+    let i = c.loop-next.invariant in let e = i.store_grows in let f = c.in-Ok.ensures.store in let has = c.requires.ready.has in let whole = Extends_trans ts mid us e f in
+    let v = c.run_at.new.racer.view in let l = c.args.env.now.limit in let ps = c.args.env.now.params in let n = c.args.depth + 1 in
+    let chain = c.args.racer.now.chain in let p = c.args.part.now in let r = c.args.other.now in
+    let room : c.args.depth ≤ 2048 = (let r = c.requires.ready.room in omega arith) in
+    let fit = c.in-Some.ensures.fits S c.loop-next.racer.view.top mid p r (goal_tree ts gl) l ps n i.are_beside in
+    answer_first S ts us gl s l ps c.args.depth chain v c.finish_beside_sat.result whole has
+    (c.finish_beside_sat.ensures.run S us s p r ps c.args.depth chain v next (copy_has ts us gl whole has gl refl) room c.requires.ready.alone refl
+    (beside_now S ts mid us e f gl has c.loop-next.racer.view.top v.top c.in-Ok.ensures.racer.top l ps n p r c.loop-next.beside i.are_beside) c.in-Some.ensures.next
+    (run_next S mid us next r c.loop-next.beside.left ps n v.top c.in-Ok.ran f fit.0 c.in-Ok.ensures.run) (sym (c.if-is_sat.ensures.sat us)))
+
+pub run_beside-returns-in-Err-Cancelled-clause-racer : goal.run_beside-returns-in-Err-Cancelled-clause-racer
+run_beside-returns-in-Err-Cancelled-clause-racer g t c = keeps_then c.loop-next.invariant.racer_kept c.in-Err-Cancelled.ensures.racer
+
+pub run_beside-returns-in-Err-Memory-clause-racer : goal.run_beside-returns-in-Err-Memory-clause-racer
+run_beside-returns-in-Err-Memory-clause-racer g t c = keeps_then c.loop-next.invariant.racer_kept c.in-Err-Memory.ensures.racer
+
+pub run_beside-returns-in_err-beside-in-Err-Failed-clause-racer : goal.run_beside-returns-in_err-beside-in-Err-Failed-clause-racer
+run_beside-returns-in_err-beside-in-Err-Failed-clause-racer g t c = keeps_then c.loop-next.invariant.racer_kept c.in-Err-Failed.ensures.racer
+
+pub run_beside-returns-in_err-beside-in-Ok-clause-racer : goal.run_beside-returns-in_err-beside-in-Ok-clause-racer
+run_beside-returns-in_err-beside-in-Ok-clause-racer g t c = keeps_then c.loop-next.invariant.racer_kept c.in-Ok.ensures.racer
+
+pub run_beside-returns-then-is_sat-clause-racer : goal.run_beside-returns-then-is_sat-clause-racer
+run_beside-returns-then-is_sat-clause-racer g t c = keeps_then c.loop-next.invariant.racer_kept c.in-Ok.ensures.racer
+
+pub run_rest-returns-in-Err-Cancelled-clause-racer : goal.run_rest-returns-in-Err-Cancelled-clause-racer
+run_rest-returns-in-Err-Cancelled-clause-racer g t c = keeps_then c.loop-next.invariant.racer_kept c.in-Err-Cancelled.ensures.racer
+
+pub run_rest-returns-in-Err-Failed-clause-racer : goal.run_rest-returns-in-Err-Failed-clause-racer
+run_rest-returns-in-Err-Failed-clause-racer g t c = keeps_then c.loop-next.invariant.racer_kept c.in-Err-Failed.ensures.racer
+
+pub run_rest-returns-in-Err-Memory-clause-racer : goal.run_rest-returns-in-Err-Memory-clause-racer
+run_rest-returns-in-Err-Memory-clause-racer g t c = keeps_then c.loop-next.invariant.racer_kept c.in-Err-Memory.ensures.racer
+
+pub run_rest-returns-in_err-row-in-Ok-clause-racer : goal.run_rest-returns-in_err-row-in-Ok-clause-racer
+run_rest-returns-in_err-row-in-Ok-clause-racer g t c = keeps_then c.loop-next.invariant.racer_kept c.in-Ok.ensures.racer
+
+pub run_rest-returns-then-is_sat-clause-racer : goal.run_rest-returns-then-is_sat-clause-racer
+run_rest-returns-then-is_sat-clause-racer g t c = keeps_then c.loop-next.invariant.racer_kept c.in-Ok.ensures.racer
+
+pub run_chain-returns-else-is_at_rest-clause-racer : goal.run_chain-returns-else-is_at_rest-clause-racer
+run_chain-returns-else-is_at_rest-clause-racer g t c = keeps_then c.in-Ok.ensures.racer c.run_rest.ensures.racer
+
+pub run_par_then-returns-in-Ok-clause-racer : goal.run_par_then-returns-in-Ok-clause-racer
+run_par_then-returns-in-Ok-clause-racer g t c = keeps_then c.in-Ok.ensures.racer c.run_beside.ensures.racer
+
+pub run_parts-returns-then-turns-eq0-clause-run : goal.run_parts-returns-then-turns-eq0-clause-run
+run_parts-returns-then-turns-eq0-clause-run g t c =
+    let S = setting (g.T.Table.kinds c.args.table.now) g.T.Table.value_of c.args.env.now in
+    let room : c.args.depth ≤ 2048 = omega (arith, c.if-depth-gt-DEEPEST.false) in
+    let is = rest_none c.args.parts.now (drop 1 c.args.parts.now) c.first_of-part.result.now c.args.turns c.in-Some.turns c.first_of-part.ensures c.in-Some.is c.if-turns-eq0.true in
+    c.rests_alone.ensures.run S c.args.store.now (rest_of c.args.parts.now c.args.turns) c.args.env.now.params c.args.depth c.args.racer.now.chain c.args.racer.now.view c.requires.ready.has c.requires.ready.shallow room (no_turn c.first_of-part.result.now refl is)
+
+pub run_parts-returns-else-turns-eq0-clause-run : goal.run_parts-returns-else-turns-eq0-clause-run
+run_parts-returns-else-turns-eq0-clause-run g t c =
+    let left : 0 < c.in-Some.turns = (let ne = c.if-turns-eq0.false in omega arith) in
+    c.run_chain.ensures.run (rest_of c.args.parts.now c.args.turns) (chains_repeat c.args.parts.now (drop 1 c.args.parts.now) c.first_of-part.result.now c.args.turns c.in-Some.turns c.first_of-part.ensures c.in-Some.is left)
+
+pub run_parts-returns-else-parts-eq1-clause-run : goal.run_parts-returns-else-parts-eq1-clause-run
+run_parts-returns-else-parts-eq1-clause-run g t c =
+    let many : 2 ≤ length c.args.parts.now = (let some = c.requires.some in let ne = c.if-parts-eq1.false in omega arith) in
+    c.run_chain-in-None.ensures.run (rest_of c.args.parts.now c.args.turns) (chains_then c.args.parts.now c.behind_first-rest.result.now c.first_of-part.result.now c.args.turns c.first_of-part.ensures c.behind_first-rest.ensures many c.in-None.is)
+
+pub run_parts-run_chain-requires-in-None : goal.run_parts-run_chain-requires-in-None
+run_parts-run_chain-requires-in-None g t c κs within =
+    let many : 2 ≤ length c.args.parts.now = (let some = c.requires.some in let ne = c.if-parts-eq1.false in omega arith) in
+    let one = first_runs (g.T.Table.kinds c.args.table.now) c.args.parts.now c.first_of-part.result.now c.requires.parts c.first_of-part.ensures in
+    let all = rest_runs (g.T.Table.kinds c.args.table.now) c.args.parts.now c.behind_first-rest.result.now c.first_of-part.result.now c.requires.parts c.first_of-part.ensures c.behind_first-rest.ensures in
+    let some : 1 ≤ length c.behind_first-rest.result.now = (let e = behind_some c.args.parts.now c.behind_first-rest.result.now c.behind_first-rest.ensures many in e) in
+    let least = rank_least c.args.parts.now c.args.turns in
+    let room : c.args.depth ≤ 2048 = omega (arith, c.if-depth-gt-DEEPEST.false) in
+    let ready = ready_below c.args.races.now c.args.racer.now c.args.store.now c.args.goal.now c.args.env.now c.args.depth room c.requires.ready in
+    search rules
+
+pub run_beside-loop-next-preserved-in-Ok : goal.run_beside-loop-next-preserved-in-Ok
+run_beside-loop-next-preserved-in-Ok g t c =
+    let S = setting (g.T.Table.kinds c.args.table.now) g.T.Table.value_of c.args.env.now in
+    let ts = c.args.store.now in let mid = c.loop-next.store in let us = c.run_at.new.store in let gl = c.args.goal in let next = c.in-Some.next.now in
+    let i = c.loop-next.invariant in let e = i.store_grows in let f = c.in-Ok.ensures.store in let has = c.requires.ready.has in
+    let v = c.run_at.new.racer.view in let p = c.args.part.now in let r = c.args.other.now in let l = c.args.env.now.limit in let ps = c.args.env.now.params in let n = c.args.depth + 1 in
+    let fit = c.in-Some.ensures.fits S c.loop-next.racer.view.top mid p r (goal_tree ts gl) l ps n i.are_beside in
+    record {
+      store_grows = Extends_trans ts mid us e f;
+      racer_kept = keeps_then i.racer_kept c.in-Ok.ensures.racer;
+      are_beside = c.in_ok-beside-in-Ok.ensures.beside S v.top us p r (goal_tree ts gl) l ps n next
+          (beside_first S ts mid us e f gl has c.loop-next.racer.view.top v.top c.in-Ok.ensures.racer.top l ps n p r c.loop-next.beside i.are_beside) c.in-Some.ensures.next
+          (run_next S mid us next r c.loop-next.beside.left ps n v.top c.in-Ok.ran f fit.0 c.in-Ok.ensures.run, sym (c.if-is_sat.ensures.sat us));
+    }
+
+pub run_beside-loop-next-smaller-in-Ok : goal.run_beside-loop-next-smaller-in-Ok
+run_beside-loop-next-smaller-in-Ok g t c = leaves_less _ _ _ _ (within _ _ _ c.in-Some.ensures.next) (ap (λ (x : Ran). length x.goals) c.in_ok-beside-in-Ok.ensures.grows.0) c.in_ok-beside-in-Ok.ensures.grows.1
+
+pub run_beside-loop-next-preserved : goal.run_beside-loop-next-preserved
+run_beside-loop-next-preserved g t c =
+    let S = setting (g.T.Table.kinds c.args.table.now) g.T.Table.value_of c.args.env.now in
+    let ts = c.args.store.now in let mid = c.loop-next.store in let us = c.run_at.new.store in let gl = c.args.goal in let next = c.in-Some.next.now in
+    let i = c.loop-next.invariant in let e = i.store_grows in let f = c.in-Err-Failed.ensures.store in let has = c.requires.ready.has in
+    let v = c.run_at.new.racer.view in let p = c.args.part.now in let r = c.args.other.now in let l = c.args.env.now.limit in let ps = c.args.env.now.params in let n = c.args.depth + 1 in
+    let fit = c.in-Some.ensures.fits S c.loop-next.racer.view.top mid p r (goal_tree ts gl) l ps n i.are_beside in
+    record {
+      store_grows = Extends_trans ts mid us e f;
+      racer_kept = keeps_then i.racer_kept c.in-Err-Failed.ensures.racer;
+      are_beside = c.in_ok-beside-in-Err-Failed.ensures.beside S v.top us p r (goal_tree ts gl) l ps n next
+          (beside_first S ts mid us e f gl has c.loop-next.racer.view.top v.top c.in-Err-Failed.ensures.racer.top l ps n p r c.loop-next.beside i.are_beside) c.in-Some.ensures.next
+          (failure_next S mid us next r c.loop-next.beside.left ps n v.top c.in-Err-Failed.deriv f fit.0 (rw c.in-Err-Failed.field-0-is at c.in-Err-Failed.ensures.run));
+    }
+
+pub run_beside-loop-next-smaller : goal.run_beside-loop-next-smaller
+run_beside-loop-next-smaller g t c = leaves_less _ _ _ _ (within _ _ _ c.in-Some.ensures.next) (ap (λ (x : Ran). length x.goals) c.in_ok-beside-in-Err-Failed.ensures.grows.0) c.in_ok-beside-in-Err-Failed.ensures.grows.1
