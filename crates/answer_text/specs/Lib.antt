@@ -1,0 +1,9 @@
+pub mod Terms
+pub mod Waiting
+pub mod Models
+pub mod Causes
+pub mod Errors
+pub mod Sizes
+pub mod Goals
+pub mod Lines
+pub mod Values
