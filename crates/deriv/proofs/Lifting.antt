@@ -1,9 +1,8 @@
 -- Steps of lifting that follow one another.
-use Rattle.std.proofs.Common.{◌≡◌, List, [], ◌∷◌, ◌++◌, true, Option, Some, None, refl, sym, ap, subst, ◌∙◌}
+use Rattle.std.proofs.Common.{◌≡◌, List, [], ◌++◌, Option, Some, None, refl, sym, subst, ◌∙◌}
 use Rattle.qterm.specs.declared.name.Name.{Name}
 use Rattle.qeval.specs.Value.{Valuation}
 use Rattle.qgoal.specs.Goal.{GoalTree}
-use Rattle.qgoal.specs.Precision.{is_up}
 use Rattle.qgoal.specs.Meaning.{IsModel}
 use Rattle.model_conv.specs.declared.step.LiftStep.{LiftStep}
 use Rattle.model_conv.specs.Lift.{lifted, wide_at, first_of}

@@ -1,8 +1,6 @@
 -- What the laws on derivations speak of.
-use Rattle.std.specs.Prelude.{◌≡◌, ◌≤◌, ℕ, List, [], ◌∷◌, length, true, false, All, Option, Some, None}
-use Rattle.qterm.specs.declared.name.Name.{Name}
+use Rattle.std.specs.Prelude.{◌≡◌, ◌≤◌, ℕ, List, [], ◌∷◌, length, true, Option, None}
 use Rattle.qeval.specs.Value.{Valuation}
-use Rattle.qgoal.specs.declared.precision.Precision.{Precision}
 use Rattle.qgoal.specs.Precision.{is_up}
 use Rattle.qgoal.specs.Goal.{GoalTree}
 use Rattle.qgoal.specs.Meaning.{IsModel}
@@ -12,7 +10,7 @@ use Rattle.model_conv.specs.Narrow.{IsNarrow}
 use Rattle.strat_text.specs.declared.strategy.Strategy.{Strategy}
 use Rattle.deriv.specs.declared.kind.Kind.{Kind}
 use Rattle.deriv.specs.declared.params.Params.{Params}
-use Rattle.deriv.specs.Outcome.{OutTree, Done, IsOutcome}
+use Rattle.deriv.specs.Outcome.{Done, IsOutcome}
 use Rattle.deriv.specs.Trees.{Lists, Der, out_of}
 use Rattle.deriv.specs.Above.{lifts, splits}
 use Rattle.deriv.specs.Derives.{World, Derives, SPLITS}

@@ -1,5 +1,5 @@
 -- The counted depth of a canonical form is at most that of the term.
-use Rattle.std.proofs.Common.{◌≡◌, ◌≤◌, ◌+◌, max, ℕ, ℤ, pos, negsuc, suc, zero, ◌%◌, [], ◌∷◌, List, Bool as Truth, true, false, ◌&&◌, not, Option, Some, None, Result, Ok, Err, if◌then◌else◌, arith, subst}
+use Rattle.std.proofs.Common.{◌+◌, ℕ, ℤ, pos, negsuc, suc, zero, ◌%◌, [], ◌∷◌, Bool as Truth, true, false, ◌&&◌, not, Option, Some, None, if◌then◌else◌}
 use Rattle.std.specs.Prelude.{◌+ℤ◌, ◌*ℤ◌, neg_ℤ, nat_abs, nat_eq}
 use Rattle.std.specs.declared.cmp.Ordering.{Ordering}
 use Rattle.std.specs.declared.cmp.Ordering.TheVariants.{Less, Equal, Greater}
@@ -18,7 +18,6 @@ use Rattle.qlin.specs.Ite.{ite_by, ite_over, ite_where, ite_of}
 use Rattle.qlin.specs.Negation.{neg_le, neg, negs}
 use Rattle.qlin.specs.Canon.{canon, canons}
 use Rattle.qcanon_laws.proofs.Sorts.{Holds, holds_map, holds_then, holds_if, Finds, finds_after, finds_at}
-use Rattle.goal_depth.specs.Depths.{counted, counted_all}
 
 abbrev mutual
   -- the counted depth is at most n

@@ -1,5 +1,5 @@
 -- The depth of a canonical tree is at most three times its counted depth.
-use Rattle.std.proofs.Common.{◌≡◌, ◌≤◌, ◌+◌, max, ℕ, ℤ, pos, negsuc, suc, zero, [], ◌∷◌, sym, subst, arith}
+use Rattle.std.proofs.Common.{◌≤◌, ◌+◌, max, ℕ, ℤ, pos, negsuc, suc, zero, [], ◌∷◌, sym, subst, arith}
 use Rattle.qterm.specs.Tree.{Tree, Trees, True, False, Var, Num, Sum, Scale, Le, Eq, Iff, Not, And, Or, Ite, none, more}
 use Rattle.qlin.specs.Form.{Parts, part_term, constant_term, terms}
 use Rattle.qcanon_laws.proofs.Linear.{IsMono, AllParts}

@@ -1,5 +1,5 @@
 -- The canonical form and the canonical list of formulas within the limits on depth are within them.
-use Rattle.std.proofs.Common.{◌≡◌, ◌≤◌, ◌+◌, max, ℕ, Bool as Truth, true, false, List, [], ◌∷◌, Result, Ok, Err, if◌then◌else◌, nat_le, subst, arith, ◌&&◌}
+use Rattle.std.proofs.Common.{◌≡◌, ◌≤◌, ◌+◌, ℕ, Bool as Truth, true, false, List, [], ◌∷◌, Result, Ok, Err, if◌then◌else◌, nat_le, subst, arith}
 use Rattle.qterm.specs.Tree.{Tree, Trees, True, False, Var, Num, Sum, Scale, Le, Eq, Iff, Not, And, Or, Ite, none, more, IsLawful}
 use Rattle.qlin.specs.Junction.{members}
 use Rattle.qlin.specs.Canon.{canon, after}
@@ -7,9 +7,9 @@ use Rattle.qlin.specs.CanonList.{canon_each, appended, spread, is_in, once, tidi
 use Rattle.qcanon_laws.proofs.Sorts.{Finds}
 use Rattle.qcanon_laws.proofs.Canonical.{IsCanonical, AreCanonical}
 use Rattle.qcanon_laws.proofs.Closed.{canon_closed}
-use Rattle.tac_cert.specs.Depth.{depth, depths, is_shallow, deepest_term}
+use Rattle.tac_cert.specs.Depth.{depth, is_shallow, deepest_term}
 use Rattle.qlist_laws.specs.Formulas.{AreFormulas}
-use Rattle.goal_depth.specs.Depths.{counted, counted_all, deepest, deepest_counted, IsShallow, AreShallow}
+use Rattle.goal_depth.specs.Depths.{deepest, deepest_counted, IsShallow, AreShallow}
 use Rattle.goal_depth.proofs.Counting.{AtMost, AllAtMost, each_canon, each_members}
 use Rattle.goal_depth.proofs.Counts.{to_at, from_at}
 use Rattle.goal_depth.proofs.Deep.{deep}

@@ -1,9 +1,9 @@
 -- Measures over the subterms that were found are those over all subterms.
-use Rattle.std.proofs.Common.{◌≡◌, ℕ, List, length, map, Contains, All, get_or, Bool as Truth, sym, subst, ◌∙◌}
+use Rattle.std.proofs.Common.{◌≡◌, ℕ, List, length, map, Contains, All, get_or, sym, subst, ◌∙◌}
 use Rattle.std.specs.List.{list_all, filter}
 use Rattle.std.proofs.lemmas.List.Elements.{Contains-get_or}
 use Rattle.qterm.specs.Tree.{Tree, sort_of}
-use Rattle.qterm.specs.Store.{tree_at, trees_of, Has, IsDistinct}
+use Rattle.qterm.specs.Store.{trees_of, Has, IsDistinct}
 use Rattle.qterm.proofs.KidsLaws.{length-trees_of}
 use Rattle.qwalk.specs.Subterms.{subterms_of}
 use Rattle.qwalk.proofs.Finding.{trees_of-Contains, IsDistinct-trees_of}

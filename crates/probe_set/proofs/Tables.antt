@@ -1,5 +1,5 @@
 -- A table of ranges, formula by formula.
-use Rattle.std.proofs.Common.{◌≡◌, ℕ, ◌+◌, ◌<◌, ◌≤◌, ℤ, List, [], ◌∷◌, length, drop, get_or, Bool as Truth, true, false, cond, if◌then◌else◌, Option, Some, None, nat_eq, refl, sym, ap, subst, ◌∙◌, rules}
+use Rattle.std.proofs.Common.{◌≡◌, ℕ, ◌+◌, ◌<◌, ◌≤◌, ℤ, List, length, drop, get_or, Bool as Truth, true, false, cond, if◌then◌else◌, Option, Some, None, nat_eq, refl, sym, ap, subst, ◌∙◌, rules}
 use Rattle.std.specs.Int.{int_min, int_max}
 use Rattle.std.proofs.lemmas.List.{drop_all}
 use Rattle.std.proofs.lemmas.Bool.{eqb-true}
@@ -8,7 +8,7 @@ use Rattle.qterm.specs.Tree.{Tree, Var}
 use Rattle.qterm.specs.Store.{Has, tree_at, trees_of, IsDistinct}
 use Rattle.qeval.specs.Value.{same_name}
 use Rattle.qeval.proofs.Valuations.{same_name_exact}
-use Rattle.qeval.specs.Bounds.{low_in, up_in, low_of, up_of, picked, tightest}
+use Rattle.qeval.specs.Bounds.{low_in, up_in, low_of, up_of, picked}
 use Rattle.qeval.proofs.Tightest.{max_assoc, min_assoc, picks}
 use Rattle.probe_set.specs.declared.ranges.Range.{Range}
 use Rattle.probe_set.specs.declared.ranges.Bound.{Bound}

@@ -1,11 +1,10 @@
 -- Measures of goals, over their formulas as they stand.
-use Rattle.std.specs.Prelude.{ℕ, zero, suc, ◌+◌, ◌-◌, max, ℤ, pos, negsuc, ◌-ℤ◌, List, [], ◌∷◌, length, map, Bool as Truth, true, false, ◌&&◌, Option, Some, None, Ok, Err, Result, if◌then◌else◌, nat_lt}
+use Rattle.std.specs.Prelude.{ℕ, ◌-◌, max, ℤ, pos, negsuc, ◌-ℤ◌, List, [], ◌∷◌, length, map, Bool as Truth, true, false, ◌&&◌, Option, Some, None, Ok, Err, Result, if◌then◌else◌}
 use Rattle.std.specs.List.{list_all, filter}
 use Rattle.std.specs.Option.{is_some}
 use Rattle.std.specs.Cmp.Lexicographic.{pointwise}
 use Rattle.std.specs.Int.{leading_zeros, w128}
 use lib.Signed.{le_z}
-use Rattle.qterm.specs.declared.name.Name.{Name}
 use Rattle.qterm.specs.declared.name.Sort.{Sort}
 use Rattle.qterm.specs.declared.name.Sort.TheVariants as sort
 use Rattle.qterm.specs.Tree.{Tree, Var, sort_of}

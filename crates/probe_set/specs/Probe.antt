@@ -1,5 +1,5 @@
 -- The value of a probe on a goal.
-use Rattle.std.specs.Prelude.{ℤ, pos, List, length, Bool as Truth, true, false, not, if◌then◌else◌}
+use Rattle.std.specs.Prelude.{ℤ, pos, List, length, Bool as Truth, true, false, not}
 use Rattle.std.specs.List.{list_all, list_any}
 use Rattle.std.specs.Ordering.{int_eq}
 use lib.Signed.{le_z, lt_z}

@@ -1,5 +1,5 @@
 -- The laws of sums and products of integers that std lacks, and what `fitting` says.
-use Rattle.std.proofs.Common.{◌≡◌, ℤ, pos, negsuc, suc, zero, sym, ap, ◌∙◌, arith, Bool as Truth, true, false, Option, Some, None, if◌then◌else◌, refl}
+use Rattle.std.proofs.Common.{◌≡◌, ℤ, pos, negsuc, suc, zero, sym, ap, ◌∙◌, arith, Bool as Truth, true, false, Some, None, if◌then◌else◌, refl}
 use Rattle.std.specs.Prelude.{◌+ℤ◌, ◌*ℤ◌, ◌-ℤ◌, neg_ℤ}
 use Rattle.std.proofs.lemmas.Int.{ints}
 use lib.IntN.{pred_ℤ, suc_ℤ-*ℤ, pred_ℤ-*ℤ, +ℤ-suc_ℤ, +ℤ-pred_ℤ, zero-*ℤ, *ℤ_comm}

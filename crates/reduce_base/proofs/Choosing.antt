@@ -1,11 +1,11 @@
 -- Places without later repeats, and the parts of canonical formulas at their places.
-use Rattle.std.proofs.Common.{◌≡◌, ◌≢◌, ℕ, suc, zero, ◌+◌, ◌<◌, ◌||◌, Bool as Truth, true, false, not, List, [], ◌∷◌, ◌++◌, map, length, take, drop, get_or, All, Some, refl, sym, ap, subst, ◌∙◌, arith, append_assoc, drop-cons, if◌then◌else◌, true≢false}
+use Rattle.std.proofs.Common.{◌≡◌, ℕ, suc, zero, ◌+◌, ◌<◌, ◌||◌, Bool as Truth, true, false, not, List, [], ◌∷◌, ◌++◌, map, length, take, drop, get_or, All, Some, refl, sym, ap, subst, ◌∙◌, arith, drop-cons, if◌then◌else◌}
 use Rattle.std.specs.List.{list_any, slice_get}
 use Rattle.std.proofs.lemmas.List.{take_more}
 use Rattle.qcanon.proofs.Listing.{tidied_once, tidied_false}
 use Rattle.std.proofs.lemmas.Option.{slice_get_read, get_or_from_slice_get}
 use Rattle.indexmap.specs.IndexSet.{insert_all, insert_key}
-use Rattle.qterm.specs.Tree.{Tree, True, False}
+use Rattle.qterm.specs.Tree.{Tree, False}
 use Rattle.qterm.specs.declared.name.Sort.TheVariants as sort
 use Rattle.qterm.specs.Store.{Has, HasSort, tree_at, trees_of, IsDistinct}
 use Rattle.qterm.proofs.Alls.{All-nil, All-cons, All-head, All-tail, All-weaker}
@@ -15,7 +15,7 @@ use Rattle.qlin.specs.CanonList.{is_in, spread}
 use Rattle.qcanon_laws.proofs.Canonical.{same_itself, not_same}
 use Rattle.reduce_base.specs.declared.places.Place.{Place}
 use Rattle.reduce_base.specs.Trace.{ArePlaced, IsAt, AreChosen}
-use Rattle.reduce_base.proofs.Pushing.{placed_push, at_before, at_behind}
+use Rattle.reduce_base.proofs.Pushing.{at_before, at_behind}
 
 -- the rest begins with the one that is read
 pub rest_is : {X : Type 0} (xs : List X) (n : ℕ) (x : X) → n < length xs → x ≡ get_or xs n x → drop n xs ≡ x ∷ drop (n + 1) xs

@@ -1,12 +1,11 @@
 -- One step more of a certificate whose items are formulas.
-use Rattle.std.proofs.Common.{◌≡◌, ℕ, zero, suc, ◌+◌, ◌-◌, ◌<◌, Bool as Truth, true, false, not, ◌&&◌, List, [], ◌∷◌, ◌++◌, map, length, Option, Some, None, Ok, refl, sym, ap, subst, ◌∙◌, arith, if◌then◌else◌, nat_eq}
+use Rattle.std.proofs.Common.{◌≡◌, ℕ, zero, suc, ◌+◌, ◌-◌, true, false, not, ◌&&◌, List, [], ◌∷◌, ◌++◌, map, length, Some, None, Ok, refl, sym, ap, subst, ◌∙◌, arith, if◌then◌else◌, nat_eq}
 use Rattle.std.specs.List.{list_all, slice_get}
 use Rattle.std.proofs.lemmas.Bool.Decides.{nat_tests}
 use Rattle.qterm.specs.declared.name.Sort.TheVariants as sort
-use Rattle.qterm.specs.Tree.{Tree, Trees, And, none, more, sort_of, IsLawful}
+use Rattle.qterm.specs.Tree.{Tree, And, sort_of, IsLawful}
 use Rattle.qterm.specs.Store.{tree_at, trees_of, trees_at}
 use Rattle.qterm.proofs.KidsLaws.{trees_of-append}
-use Rattle.qlin.specs.Order.{same}
 use Rattle.qlin.specs.Canon.{canon}
 use Rattle.qcanon_laws.proofs.Canonical.{same_itself}
 use Rattle.qcanon_laws.proofs.Closed.{its_own}
@@ -14,12 +13,12 @@ use Rattle.tac_cert.specs.declared.cert.Step.{Step}
 use Rattle.tac_cert.specs.declared.cert.Step.TheVariants as step
 use Rattle.tac_cert.specs.Names.{is_int, same_sort}
 use Rattle.tac_cert.specs.Depth.{is_shallow}
-use Rattle.tac_cert.specs.WellSorted.{well_sorted, has_sort, items_sorted}
+use Rattle.tac_cert.specs.WellSorted.{items_sorted}
 use Rattle.tac_cert.specs.Items.{Item, Formula, item, formula_of, formula_at, gives_if}
-use Rattle.tac_cert.specs.Formulas.{are_equal, same_canon, rewrite, child, conjuncts, alone, part, put, kept}
+use Rattle.tac_cert.specs.Formulas.{are_equal, same_canon, rewrite, child, alone, part, put, kept}
 use Rattle.tac_cert.specs.Gives.{gives, adds, StepFits}
 use Rattle.tac_cert.specs.Accepts.{AfterSteps, StepsFit, as_items}
-use Rattle.cert_rules.proofs.Lawful.{sorted_of}
+use Rattle.tac_cert.proofs.Sorting.{sorted_of}
 use Rattle.proof_conv.specs.Leaves.{StepsLeave}
 use Rattle.reduce_base.specs.declared.places.Place.{Place}
 use Rattle.reduce_base.specs.Trace.{IsAt, ArePlaced}

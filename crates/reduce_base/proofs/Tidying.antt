@@ -1,9 +1,9 @@
 -- The canonical list of a goal, within its size.
-use Rattle.std.proofs.Common.{◌≡◌, ℕ, ◌<◌, ◌≤◌, List, [], ◌∷◌, All, Ok, sym, ap, subst, ◌∙◌, arith}
+use Rattle.std.proofs.Common.{◌≡◌, ℕ, ◌<◌, ◌≤◌, List, [], ◌∷◌, All, Ok, sym, ap, subst, ◌∙◌}
 use Rattle.std.specs.List.{AllZip}
 use Rattle.qterm.specs.declared.name.Sort.TheVariants as sort
 use Rattle.qterm.specs.Tree.{Tree, True, IsLawful}
-use Rattle.qterm.specs.Store.{Has, HasSort, tree_at, trees_of, Extends}
+use Rattle.qterm.specs.Store.{Has, HasSort, trees_of, Extends}
 use Rattle.qterm.proofs.Alls.{All-head, All-tail, All-weaker}
 use Rattle.qterm.proofs.Extending.{trees_of_extends}
 use Rattle.qwalk.specs.Subterms.{HasSubterms}

@@ -1,5 +1,5 @@
 -- The causes for which a goal has no canonical list within its size.
-use Rattle.std.specs.Prelude.{◌≡◌, ℕ, List, Ok, Err}
+use Rattle.std.specs.Prelude.{◌≡◌, ℕ, List, Err}
 use Rattle.qterm.specs.Tree.{Tree}
 use Rattle.qterm.specs.Store.{tree_at, Has}
 use Rattle.qlin.specs.CanonList.{canon_list}

@@ -12,7 +12,7 @@ use Rattle.race_word.specs.Runner.{Runner}
 use Rattle.race_word.specs.Keeps.{SeenOn}
 use Rattle.deriv.specs.declared.kind.Kind.{Kind}
 use Rattle.deriv.specs.declared.kind.Kind.TheVariants as kinds
-use Rattle.deriv.specs.Outcome.{OutTree, Done, Failed, IsOutcome, goal_trees, cause_tree, HasCause}
+use Rattle.deriv.specs.Outcome.{Done, Failed, IsOutcome, goal_trees, cause_tree, HasCause}
 use Rattle.deriv.specs.declared.cause.Cause.{Cause}
 use Rattle.deriv.specs.Above.{is_split}
 use Rattle.deriv.specs.Honest.{IsHonest}

@@ -1,11 +1,5 @@
 -- What a reducer of each kind may answer. A kind without a row here isn't built yet, and nothing is allowed to it.
-use Rattle.std.specs.Prelude.{ℕ, Option}
-use Rattle.qgoal.specs.Goal.{GoalTree}
-use Rattle.deriv.specs.declared.kind.Kind.{Kind}
 use Rattle.deriv.specs.declared.kind.Kind.TheVariants as kinds
-use Rattle.deriv.specs.declared.params.Params.{Params}
-use Rattle.deriv.specs.Outcome.{OutTree}
-use Rattle.deriv.specs.Trees.{Lists}
 use Rattle.deriv.specs.Derives.{Rows}
 use Rattle.reducer_iface.specs.SkipRow.{SkipRow}
 use Rattle.reducer_iface.specs.FailRow.{FailRow}

@@ -1,5 +1,5 @@
 -- The row of sat: whether the canonical list of the goal, which has to be clauses, has a model, decided within a number of lemmas.
-use Rattle.std.specs.Prelude.{◌≡◌, ◌⊎◌, ℕ, ◌<◌, ◌≤◌, ◌+◌, ◌^◌, Bool as Truth, List, [], ◌∷◌, length, Option, Some, None, MatchOption}
+use Rattle.std.specs.Prelude.{◌≡◌, ◌⊎◌, ℕ, ◌<◌, ◌≤◌, ◌+◌, ◌^◌, Bool as Truth, List, [], ◌∷◌, length, Option, Some, MatchOption}
 use Rattle.qterm.specs.declared.name.Name.{Name}
 use Rattle.qterm.specs.Tree.{Tree, False}
 use Rattle.qeval.specs.declared.model.Value.TheVariants.{Bool}

@@ -1,5 +1,5 @@
 -- Learnt lines are lemmas.
-use Rattle.std.proofs.Common.{◌≡◌, ◌≢◌, ℕ, ◌+◌, suc, ◌<◌, Bool as Truth, true, false, not, ◌&&◌, List, [], ◌∷◌, ◌++◌, length, map, Contains, ◌⊎◌, inl, inr, refl, sym, ap, subst, ◌∙◌, arith, append_assoc, append-nil, Option, Some, None, is_some, if◌then◌else◌}
+use Rattle.std.proofs.Common.{◌≡◌, ◌≢◌, ℕ, ◌+◌, suc, ◌<◌, true, false, not, ◌&&◌, List, [], ◌∷◌, ◌++◌, length, Contains, inl, inr, refl, sym, ap, subst, ◌∙◌, arith, append_assoc, append-nil, Some, None, is_some, if◌then◌else◌}
 use Rattle.std.specs.List.{list_all}
 use Rattle.qterm.specs.declared.name.Name.{Name}
 use Rattle.qterm.specs.Tree.{Tree}
@@ -9,8 +9,7 @@ use Rattle.rup.specs.declared.literal.Lit.{Lit as Numbered}
 use Rattle.rup.specs.Literals as numbers
 use Rattle.rup.proofs.Bools.{and_left, and_right, not_true_from}
 use Rattle.tac_cert.specs.Clauses.{Lit, lits_of}
-use Rattle.tac_cert.specs.Rup.{has, has_pair, is_rup}
-use Rattle.tac_cert.specs.Accepts.{as_items}
+use Rattle.tac_cert.specs.Rup.{has, has_pair}
 use Rattle.sat_core.specs.declared.solver.RupLine.{RupLine}
 use Rattle.sat_core.specs.Clauses.{is_empty, contains_none}
 use Rattle.sat_core.specs.Lines as lines
@@ -21,7 +20,7 @@ use Rattle.sat_clauses.proofs.Reading.{read_push, all_below_push}
 use Rattle.sat_lines.specs.Terms.{clause_tree, AreBool}
 use Rattle.sat_lines.specs.Lines.{line_trees, LinesBelow}
 use Rattle.sat_lines.proofs.Formed.{clause_read}
-use Rattle.reducer_iface.specs.Lemmas.{first_other, AreClauses, holds_all, IsApart, IsLemma, AreLemmas}
+use Rattle.reducer_iface.specs.Lemmas.{first_other, AreClauses, holds_all, AreLemmas}
 
 some_same : {X : Type 0} (x y : X) → Some x ≡ Some y → x ≡ y
 some_same x y e = cc

@@ -1,5 +1,5 @@
 -- Formulas whose clauses have no model have none.
-use Rattle.std.proofs.Common.{◌≡◌, ℕ, Bool as Truth, true, false, ◌&&◌, List, [], ◌∷◌, Contains, refl, sym, ap, ◌∙◌, true≢false}
+use Rattle.std.proofs.Common.{◌≡◌, ℕ, true, false, ◌&&◌, List, [], ◌∷◌, Contains, refl, sym, ◌∙◌, true≢false}
 use Rattle.std.specs.List.{list_all}
 use Rattle.qterm.specs.declared.name.Name.{Name}
 use Rattle.qterm.specs.Tree.{Tree}

@@ -1,13 +1,12 @@
 -- Names that are set to the values of a model make the formulas true.
-use Rattle.std.proofs.Common.{◌≡◌, ℕ, zero, suc, ◌<◌, Bool as Truth, true, false, ◌&&◌, ◌||◌, List, [], ◌∷◌, length, get_or, Contains, inl, inr, refl, sym, ap, subst, ◌∙◌, arith, if◌then◌else◌, unwrap_or, slice_get}
-use Rattle.std.specs.List.{list_all, list_any}
+use Rattle.std.proofs.Common.{◌≡◌, ℕ, zero, suc, ◌<◌, Bool as Truth, true, false, ◌&&◌, ◌||◌, List, [], ◌∷◌, length, get_or, Contains, inl, inr, refl, sym, ap, ◌∙◌, arith, if◌then◌else◌}
+use Rattle.std.specs.List.{list_all}
 use Rattle.qterm.specs.declared.name.Name.{Name}
 use Rattle.qterm.specs.declared.name.Sort.TheVariants as sort
 use Rattle.qterm.specs.Tree.{Tree}
 use Rattle.qterm.proofs.Members.{Contains_none, Contains_cases}
-use Rattle.qeval.specs.declared.model.Value.{Value}
 use Rattle.qeval.specs.declared.model.Value.TheVariants.{Bool}
-use Rattle.qeval.specs.Value.{Valuation, IsSorted, HasSort, same_name, value_of, with_value, bool_of}
+use Rattle.qeval.specs.Value.{Valuation, IsSorted, same_name, value_of, bool_of}
 use Rattle.qeval.specs.Eval.{truth}
 use Rattle.qeval.proofs.Valuations.{same_name_exact, IsSorted-with_value}
 use Rattle.qgoal.specs.Meaning.{IsModel}

@@ -1,9 +1,8 @@
 -- What spells a strategy is read as it.
-use Rattle.std.proofs.Common.{◌≡◌, ℕ, zero, suc, ◌≤◌, ◌<◌, ◌^◌, Bool, true, false, ◌&&◌, ℤ, List, [], ◌∷◌, length, Option, None, Some, Result, Ok, Err, refl, ap, sym, subst, ◌∙◌, arith}
+use Rattle.std.proofs.Common.{◌≡◌, ℕ, suc, ◌≤◌, ◌<◌, ◌^◌, true, false, ℤ, List, [], ◌∷◌, length, Option, None, Some, Result, Ok, refl, ap, sym, ◌∙◌, arith}
 use Rattle.std.proofs.lemmas.Bool.Decides.{nat_tests}
 use Rattle.std.specs.Prelude.{nat_le}
 use Rattle.sexp_read.specs.Lexical.{is_simple_symbol}
-use Rattle.sexp_read.specs.declared.sexp.AtomKind.{AtomKind}
 use Rattle.sexp_read.specs.declared.sexp.AtomKind.TheVariants as kind
 use Rattle.strat_text.specs.declared.error.StratError.{StratError}
 use Rattle.strat_text.specs.declared.words.Head.{Head}
@@ -16,11 +15,11 @@ use Rattle.strat_text.specs.declared.strategy.ParamKey.{ParamKey}
 use Rattle.strat_text.specs.declared.strategy.Strategy.{Strategy}
 use Rattle.strat_text.specs.declared.strategy.Strategy.TheVariants as strategy
 use Rattle.strat_text.specs.declared.strategy.TheConstants.{BRANCHES, TURNS}
-use Rattle.strat_text.specs.Form.{Form, atom, list, Forms, none, more, symbol_of, symbol_text, numeral_of, place_of}
-use Rattle.strat_text.specs.Words.{head_in, operator_in, probe_named, key_of}
-use Rattle.strat_text.specs.Number.{number_of, signed, minus_of, is_wide, is_within}
+use Rattle.strat_text.specs.Form.{Form, atom, list, Forms, none, more, symbol_of, numeral_of, place_of}
+use Rattle.strat_text.specs.Words.{operator_in, probe_named, key_of}
+use Rattle.strat_text.specs.Number.{number_of, signed, is_wide, is_within}
 use Rattle.strat_text.specs.Grammar.{Names, is_known, IsProbeForm, IsStrategyForm, SpellsProbe, by_word, by_number, by_lt, by_le, by_gt, by_ge, by_eq, by_and, by_or, by_not, SpellProbes, no_probes, more_probes, SpellSettings, no_settings, more_settings, Spells, by_name, by_then, by_or_else, by_par_or, by_par_then, by_if, by_when, by_fail_if, by_repeat, by_repeat_times, by_params, by_try_for, SpellEach, no_parts, more_parts}
-use Rattle.strat_text.specs.Reading.{and_then, in_front, one_of, two_of, least_of, probe_number, probe_word, probe_form, probe_combined, read_probe, read_probes, read_key, read_value, value_read, read_setting, read_settings, with_setting, with_settings, name_read, strategy_form, read_strategy, read_each, then_of, or_else_of, par_or_of, par_then_of, branches, limited, within, repeat_of, try_for_of, params_of}
+use Rattle.strat_text.specs.Reading.{and_then, in_front, least_of, probe_number, probe_word, probe_form, probe_combined, read_probe, read_probes, read_setting, read_settings, with_setting, with_settings, name_read, strategy_form, read_strategy, read_each, then_of, or_else_of, par_or_of, par_then_of, branches, limited, within, repeat_of, try_for_of, params_of}
 
 -- a simple symbol is an atom
 pub record IsWord (form : Form) (word : List ℕ) : Type 0 where

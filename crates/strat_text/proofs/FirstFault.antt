@@ -1,5 +1,5 @@
 -- The fault that is told is the first of all faults.
-use Rattle.std.proofs.Common.{◌≡◌, ℕ, zero, suc, ◌≤◌, ◌<◌, Bool, true, false, ◌&&◌, not, ℤ, pos, List, [], ◌∷◌, ◌++◌, length, Option, None, Some, Result, Ok, Err, refl, ap, sym, subst, ◌∙◌, arith, append_assoc, append-nil}
+use Rattle.std.proofs.Common.{◌≡◌, ℕ, zero, suc, Bool, true, false, ◌&&◌, ℤ, pos, List, [], ◌∷◌, ◌++◌, length, Option, None, Some, Result, Ok, Err, refl, ap, sym, subst, ◌∙◌, arith, append_assoc}
 use Rattle.std.proofs.lemmas.Bool.Decides.{nat_tests}
 use Rattle.std.specs.Prelude.{nat_le, nat_lt}
 use Rattle.sexp_read.specs.Lexical.{is_simple_symbol}
@@ -17,13 +17,13 @@ use Rattle.strat_text.specs.declared.strategy.ParamKey.{ParamKey}
 use Rattle.strat_text.specs.declared.strategy.Strategy.{Strategy}
 use Rattle.strat_text.specs.declared.strategy.Strategy.TheVariants as strategy
 use Rattle.strat_text.specs.declared.strategy.TheConstants.{BRANCHES, TURNS}
-use Rattle.strat_text.specs.Form.{Form, atom, list, Forms, none, more, numeral_of, place_of, value_from, numeral_value}
+use Rattle.strat_text.specs.Form.{Form, atom, list, Forms, none, more, numeral_of, place_of, value_from}
 use Rattle.strat_text.specs.Words.{head_in, operator_in, probe_named, key_of}
-use Rattle.strat_text.specs.Number.{number_of, minus_of, positive, is_wide, is_within}
+use Rattle.strat_text.specs.Number.{number_of, minus_of, is_wide, is_within}
 use Rattle.strat_text.specs.Grammar.{Names, is_known, SpellProbes, no_probes, more_probes, SpellEach, no_parts, more_parts}
 use Rattle.strat_text.specs.Given.{Gives, Tells}
-use Rattle.strat_text.proofs.Spelled.{no_answer, same_answer, Both, both, read_probes_spelled, read_each_spelled}
-use Rattle.strat_text.specs.Reading.{and_then, in_front, one_of, two_of, least_of, probe_number, probe_word, probe_form, probe_combined, read_probe, read_probes, read_key, key_read, read_value, value_read, read_setting, read_settings, with_setting, with_settings, name_read, strategy_form, read_strategy, read_each, then_of, or_else_of, par_or_of, par_then_of, if_of, when_of, fail_if_of, branches, nothing, only, limited, within, repeat_of, try_for_of, params_of}
+use Rattle.strat_text.proofs.Spelled.{no_answer, same_answer, both, read_probes_spelled, read_each_spelled}
+use Rattle.strat_text.specs.Reading.{and_then, in_front, one_of, two_of, least_of, probe_number, probe_word, probe_form, read_probe, read_probes, read_key, key_read, read_value, value_read, read_setting, read_settings, with_setting, with_settings, name_read, strategy_form, read_strategy, read_each, then_of, or_else_of, par_or_of, par_then_of, if_of, when_of, fail_if_of, only, limited, within, repeat_of, try_for_of, params_of}
 use Rattle.strat_text.specs.Faults.{count, bad_unless, is_number, word_faults, probe_form_faults, probe_faults, probes_faults, key_known, key_faults, key_in, range_faults, settings_faults, are_pairs, is_keyword_form, is_some_number, name_faults, limit_faults, is_numeral_form, turns_faults, is_turns, is_limit, strategy_form_faults, faults, each_faults}
 
 -- there is no fault where something is read, and else the fault is the first

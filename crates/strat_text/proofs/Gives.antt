@@ -1,10 +1,10 @@
 -- Readings one after the other, and what calls answer for them.
-use Rattle.std.proofs.Common.{◌≡◌, ℕ, List, [], ◌∷◌, length, refl, ap, sym, ◌∙◌, Result, Ok, Err}
+use Rattle.std.proofs.Common.{◌≡◌, ap, Result, Ok, Err}
 use Rattle.std.specs.Prelude.{IsErrAnd}
 use Rattle.strat_text.specs.declared.error.StratError.{StratError}
 use Rattle.strat_text.specs.declared.error.StratError.TheVariants.{UnknownReducer, UnknownProbe, UnknownParam, BadStrategy, Memory}
 use Rattle.strat_text.specs.Given.{Gives}
-use Rattle.strat_text.specs.Reading.{and_then, one_of, two_of}
+use Rattle.strat_text.specs.Reading.{and_then}
 
 -- a fault stays the fault of what comes after
 pub gives_fault : {A B : Type 0} (e : StratError) (r : Result A StratError) (next : A → Result B StratError) → Gives {A = A} (Err e) r → Gives {A = B} (Err e) (and_then r next)

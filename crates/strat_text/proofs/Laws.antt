@@ -1,5 +1,5 @@
 -- The laws of reading, for what a call answers.
-use Rattle.std.proofs.Common.{◌≡◌, ℕ, Result, Ok, Err, subst, sym}
+use Rattle.std.proofs.Common.{ℕ, Result, Ok, Err, subst}
 use Rattle.std.specs.Prelude.{IfOk}
 use Rattle.strat_text.specs.declared.error.StratError.{StratError}
 use Rattle.strat_text.specs.declared.strategy.Strategy.{Strategy}

@@ -1,6 +1,5 @@
 -- What lists are read as, by their first word.
-use Rattle.std.proofs.Common.{◌≡◌, ℕ, zero, suc, ◌+◌, ◌-◌, ◌<◌, ◌≤◌, ◌++◌, ℤ, Option, arith, List, [], ◌∷◌, length, drop, get_or, map, append_assoc, append-nil, None, Some, Result, Ok, Err, refl, ap, sym, subst, ◌∙◌}
-use Rattle.std.proofs.lemmas.List.{at_drop_more}
+use Rattle.std.proofs.Common.{◌≡◌, ℕ, zero, suc, ◌-◌, ◌<◌, ◌≤◌, ℤ, Option, arith, List, [], ◌∷◌, length, drop, get_or, append_assoc, append-nil, None, Some, Result, Ok, Err, refl, ap, sym, ◌∙◌}
 use Rattle.sexp_read.specs.declared.sexp.Sexp.{Sexp}
 use Rattle.sexp_read.specs.declared.sexp.AtomKind.{AtomKind}
 use Rattle.strat_text.specs.declared.error.StratError.{StratError}
@@ -13,8 +12,8 @@ use Rattle.strat_text.specs.Words.{operator_before}
 use Rattle.strat_text.specs.Number.{minus_of}
 use Rattle.strat_text.specs.declared.strategy.ParamKey.{ParamKey}
 use Rattle.strat_text.specs.Grammar.{Names}
-use Rattle.strat_text.specs.Reading.{and_then, in_front, probe_form, probe_number, probe_combined, read_probe, read_probes, read_key, read_setting, read_settings, with_setting, appended, alone, read_strategy, read_each, strategy_atom, list_read}
-use Rattle.strat_text.specs.Given.{Gives, behind_settings}
+use Rattle.strat_text.specs.Reading.{and_then, probe_form, probe_number, probe_combined, read_probe, read_probes, read_key, read_setting, read_settings, with_setting, appended, alone, read_strategy, read_each, strategy_atom, list_read}
+use Rattle.strat_text.specs.Given.{behind_settings}
 use Rattle.strat_text.proofs.Each.{ReadsEach}
 
 pub read_probe_list : (items : Forms) (at : ℕ) → read_probe (list items at) ≡ probe_form at (behind items) (read_probes (behind items)) (operator_before items)

@@ -1,5 +1,5 @@
 -- What is read as a strategy spells it.
-use Rattle.std.proofs.Common.{◌≡◌, ℕ, zero, suc, ◌≤◌, ◌<◌, ◌^◌, Bool, true, false, ◌&&◌, not, ℤ, pos, List, [], ◌∷◌, length, Option, None, Some, Result, Ok, Err, refl, ap, sym, subst, ◌∙◌, arith}
+use Rattle.std.proofs.Common.{◌≡◌, ℕ, zero, suc, ◌≤◌, ◌<◌, ◌^◌, Bool, true, false, ℤ, pos, List, [], ◌∷◌, length, Option, None, Some, Result, Ok, Err, refl, ap, sym, subst, ◌∙◌, arith}
 use Rattle.std.proofs.lemmas.Bool.Decides.{nat_tests}
 use Rattle.std.specs.Prelude.{nat_le}
 use Rattle.sexp_read.specs.Lexical.{is_simple_symbol}
@@ -17,12 +17,12 @@ use Rattle.strat_text.specs.declared.strategy.ParamKey.{ParamKey}
 use Rattle.strat_text.specs.declared.strategy.Strategy.{Strategy}
 use Rattle.strat_text.specs.declared.strategy.Strategy.TheVariants as strategy
 use Rattle.strat_text.specs.declared.strategy.TheConstants.{BRANCHES, TURNS}
-use Rattle.strat_text.specs.Form.{Form, atom, list, Forms, none, more, symbol_of, numeral_of, place_of, value_from}
+use Rattle.strat_text.specs.Form.{Form, atom, list, Forms, none, more, numeral_of, place_of, value_from}
 use Rattle.strat_text.specs.Words.{head_in, operator_in, probe_named, key_of}
-use Rattle.strat_text.specs.Number.{number_of, signed, minus_of, positive, is_wide, is_within}
+use Rattle.strat_text.specs.Number.{number_of, signed, minus_of, is_wide, is_within}
 use Rattle.strat_text.specs.Grammar.{Names, is_known, IsProbeForm, IsStrategyForm, SpellsProbe, by_word, by_number, by_lt, by_le, by_gt, by_ge, by_eq, by_and, by_or, by_not, SpellProbes, no_probes, more_probes, SpellSettings, no_settings, more_settings, Spells, by_name, by_then, by_or_else, by_par_or, by_par_then, by_if, by_when, by_fail_if, by_repeat, by_repeat_times, by_params, by_try_for, SpellEach, no_parts, more_parts}
 use Rattle.strat_text.proofs.Readings.{read_strategy_deep}
-use Rattle.strat_text.specs.Reading.{and_then, in_front, one_of, two_of, least_of, probe_number, probe_word, probe_form, probe_combined, read_probe, read_probes, read_key, key_read, read_value, value_read, read_setting, read_settings, with_setting, with_settings, name_read, strategy_form, read_strategy, read_each, then_of, or_else_of, par_or_of, par_then_of, if_of, when_of, fail_if_of, branches, nothing, only, limited, within, repeat_of, try_for_of, params_of}
+use Rattle.strat_text.specs.Reading.{and_then, in_front, one_of, two_of, least_of, probe_number, probe_word, probe_form, read_probe, read_probes, read_key, key_read, read_value, value_read, read_setting, read_settings, with_setting, with_settings, name_read, strategy_form, read_strategy, read_each, then_of, or_else_of, par_or_of, par_then_of, if_of, when_of, fail_if_of, branches, only, limited, repeat_of, try_for_of, params_of}
 
 -- a fault is no answer, and two answers are the same
 pub no_answer : {A B : Type 0} (e : StratError) (a : A) → ◌≡◌ {A = Result A StratError} (Err e) (Ok a) → B

@@ -23,6 +23,7 @@ mod write;
 pub use allowed::is_allowed;
 pub use error::StratError;
 pub use name::ReducerName;
+pub use number::value;
 pub use probe::ProbeExpr;
 pub use read::read_strategy;
 pub use strategy::{ParamKey, Strategy};

@@ -11,8 +11,9 @@ pub(crate) enum Number {
     Fits(i128),
 }
 
-/// The number that digits stand for, if it is below 2^128.
-pub(crate) fn value(digits: &[u8]) -> Option<u128>
+/// The number that decimal digits stand for, None exactly where it is 2^128 or more. No digits stand for 0, and a byte below `0`
+/// counts as 0.
+pub fn value(digits: &[u8]) -> Option<u128>
     ensures { result ≡ narrow (value_from 0 digits.now) }
 {
     let mut value: u128 = 0;

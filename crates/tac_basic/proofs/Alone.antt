@@ -1,14 +1,11 @@
 -- A goal that is its own subgoal.
-use Rattle.std.proofs.Common.{◌≡◌, ◌≤◌, ℕ, Bool as Truth, true, false, List, [], ◌∷◌, map, length, All, Option, Some, None, refl, sym, ap, subst, ◌∙◌, arith}
+use Rattle.std.proofs.Common.{◌≡◌, ℕ, List, [], ◌∷◌, map, length, All, refl, sym, ap, subst, ◌∙◌, arith}
 use Rattle.std.specs.Option.{is_some}
 use Rattle.std.proofs.lemmas.List.Elements.{All-cons, All-nil}
 use Rattle.qterm.specs.Tree.{Tree}
-use Rattle.tac_cert.specs.declared.cert.Step.{Step}
-use Rattle.tac_cert.specs.Accepts.{as_items}
 use Rattle.qgoal.specs.declared.goal.Goal.{Goal}
 use Rattle.qgoal.specs.declared.precision.Precision.TheVariants as precision
 use Rattle.qgoal.specs.Goal.{GoalTree, goal_tree, HasGoal}
-use Rattle.deriv.specs.declared.outcome.TheConstants.{SUBGOALS}
 use Rattle.deriv.specs.declared.kind.Kind.TheVariants as kinds
 use Rattle.deriv.specs.Outcome.{IsOutcome, Done, goal_trees}
 use Rattle.deriv.specs.Honest.{IsHonest}

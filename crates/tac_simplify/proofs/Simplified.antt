@@ -1,7 +1,6 @@
 -- The success of simplify.
-use Rattle.std.proofs.Common.{◌≡◌, ℕ, List, [], ◌∷◌, map, length, All, true, Option, Err, refl, sym, ap, subst, ◌∙◌, arith}
+use Rattle.std.proofs.Common.{◌≡◌, ℕ, List, [], ◌∷◌, map, length, All, Err, refl, sym, ap, subst, ◌∙◌}
 use Rattle.std.specs.Option.{is_some}
-use Rattle.std.proofs.lemmas.List.Elements.{All-cons, All-nil}
 use Rattle.qterm.specs.Tree.{Tree}
 use Rattle.qterm.specs.Store.{trees_of}
 use Rattle.tac_cert.specs.declared.cert.Step.{Step}
@@ -11,7 +10,6 @@ use Rattle.qgoal.specs.declared.precision.Precision.TheVariants as precision
 use Rattle.qgoal.specs.Goal.{GoalTree, goal_tree, HasGoal}
 use Rattle.deriv.specs.declared.kind.Kind.TheVariants as kinds
 use Rattle.deriv.specs.Outcome.{IsOutcome, Done, goal_trees}
-use Rattle.deriv.specs.Honest.{IsHonest}
 use Rattle.goal_depth.specs.Depths.{AreShallow}
 use Rattle.proof_conv.specs.Conv.{IsOpen}
 use Rattle.proof_conv.specs.Leads.{Leads, NestAtMost, for_each}

@@ -1,7 +1,7 @@
 //! Scripts read as commands.
 
 use qterm::{Name, Sort, Store, Term, TermId, TermIds};
-use smt_script::{Command, PlacedCommand, Script, ScriptError, What, commands};
+use smt_script::{Command, Script, ScriptError, What, commands};
 use std::alloc::{AllocError, Global};
 use std::test::Fail;
 

@@ -1,8 +1,8 @@
-//! Copies of probes, and names as keys. Rows of texts that are read, refused and written stand in `strat_tables`.
+//! Copies of probes, names as keys, and numbers from digits. Rows of texts that are read, refused and written stand in `strat_tables`.
 
 use indexmap::IndexSet;
 use std::test::Fail;
-use strat_text::{ProbeExpr, ReducerName};
+use strat_text::{ProbeExpr, ReducerName, value};
 
 #[test]
 fn copies_probes_and_names(rt: HostRuntime) -> Result<(), Fail> {
@@ -13,4 +13,11 @@ fn copies_probes_and_names(rt: HostRuntime) -> Result<(), Fail> {
     names.insert(name.clone()?)?;
     assert!(rt; names.contains(&name) && !names.contains(&ReducerName::new(alloc, b"skip")?));
     Ok(())
+}
+
+#[test]
+fn reads_digits(rt: HostRuntime) {
+    assert!(rt; value(b"065536") == Some(65_536));
+    assert!(rt; value(b"340282366920938463463374607431768211455") == Some(u128::MAX));
+    assert!(rt; value(b"340282366920938463463374607431768211456").is_none());
 }

@@ -1,5 +1,4 @@
 use Rattle.std.proofs.Common.{◌≡◌, ◌∙◌, ap, sym, false, if◌then◌else◌}
-use Rattle.qterm.specs.Tree.{Var}
 use Rattle.qterm.specs.Store.{grow}
 use Rattle.qeval.specs.Bounds.{low_of, up_of}
 use Rattle.probe_set.specs.Measures as measure

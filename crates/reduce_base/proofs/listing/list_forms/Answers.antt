@@ -1,4 +1,4 @@
-use Rattle.std.proofs.Common.{subst, sym, arith}
+use Rattle.std.proofs.Common.{subst, arith}
 use Rattle.qterm.specs.Store.{trees_of}
 use Rattle.qwalk.specs.Subterms.{HasSubterms}
 use Rattle.reduce_base.proofs.Tidying.{are_formulas, canonical, listed, large}

@@ -1,4 +1,4 @@
-use Rattle.std.proofs.Common.{◌≡◌, All, Ok, sym, subst}
+use Rattle.std.proofs.Common.{◌≡◌, Ok, sym, subst}
 use Rattle.qlin.specs.CanonList.{canon_list}
 use Rattle.qcanon.proofs.Sorted.{list_sorts}
 use Rattle.tac_cert.specs.Accepts.{as_items}

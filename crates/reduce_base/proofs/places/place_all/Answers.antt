@@ -1,5 +1,4 @@
-use Rattle.std.proofs.Common.{◌++◌, length, ap, subst, sym, ◌∙◌, append_assoc}
-use Rattle.qterm.specs.Store.{trees_of, tree_at}
+use Rattle.std.proofs.Common.{◌++◌, ap, ◌∙◌, append_assoc}
 use Rattle.qcanon.proofs.Listing.{spread_more}
 use Rattle.reduce_base.proofs.Choosing.{form_place}
 use Rattle.reduce_base.proofs.places.place_all.Goals as goal

@@ -1,4 +1,4 @@
-use Rattle.std.proofs.Common.{◌++◌, ◌+◌, [], ◌∷◌, ap, subst, sym, ◌∙◌}
+use Rattle.std.proofs.Common.{[], ◌∷◌, subst, sym}
 use Rattle.reduce_base.specs.Trace.{ArePlaced}
 use Rattle.reduce_base.proofs.Pushing.{placed_before, placed_push}
 use Rattle.reduce_base.proofs.Rewriting.{part_next, items_more, at_end}

@@ -1,4 +1,4 @@
-use Rattle.std.proofs.Common.{◌++◌, [], ◌∷◌, All, map, ap, subst, sym, ◌∙◌, append-nil}
+use Rattle.std.proofs.Common.{◌++◌, [], All, map, ap, subst, sym, ◌∙◌, append-nil}
 use Rattle.qterm.specs.declared.name.Sort.TheVariants as sort
 use Rattle.qterm.specs.Tree.{And}
 use Rattle.qterm.specs.Store.{Has, HasSort, Fits, tree_at, trees_at, grow}

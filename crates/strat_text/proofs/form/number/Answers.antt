@@ -1,7 +1,4 @@
-use Rattle.std.proofs.Common.{◌≡◌, ap, sym, ◌∙◌}
-use Rattle.strat_text.specs.Form.{form_of}
-use Rattle.strat_text.specs.Number.{number_of}
-use Rattle.strat_text.specs.Given.{seen}
+use Rattle.std.proofs.Common.{sym}
 use Rattle.strat_text.proofs.Levels.{form_of_list}
 use Rattle.strat_text.proofs.form.number.Goals as goal
 

@@ -1,4 +1,4 @@
-use Rattle.std.proofs.Common.{◌≡◌, ap, sym, ◌∙◌}
+use Rattle.std.proofs.Common.{sym}
 use Rattle.std.specs.Option.{option_copied}
 use Rattle.strat_text.specs.Form.{form_of, forms_of}
 use Rattle.strat_text.specs.Reading.{read_strategy, read_each}

@@ -1,10 +1,9 @@
 use Rattle.std.proofs.Common.{◌≡◌, Some, ap, sym, arith, true≢false, ◌∙◌}
 use Rattle.strat_text.specs.declared.words.Operator.TheVariants as operator
-use Rattle.strat_text.specs.Form.{behind, form_of, forms_of, list}
+use Rattle.strat_text.specs.Form.{behind, form_of, forms_of}
 use Rattle.strat_text.specs.Words.{operator_before}
 use Rattle.strat_text.specs.Number.{minus_of}
-use Rattle.strat_text.specs.Reading.{read_probe, read_probes, probe_combined, and_then}
-use Rattle.strat_text.specs.Given.{Gives}
+use Rattle.strat_text.specs.Reading.{read_probe, read_probes, probe_combined}
 use Rattle.strat_text.proofs.Levels.{form_of_atom, form_of_list}
 use Rattle.strat_text.proofs.Gives.{gives_next, gives_handed}
 use Rattle.strat_text.proofs.Each.{each_fault, each_more, each_done}

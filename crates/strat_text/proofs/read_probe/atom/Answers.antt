@@ -1,4 +1,4 @@
-use Rattle.std.proofs.Common.{◌≡◌, Some, pos, ap, sym, ◌∙◌}
+use Rattle.std.proofs.Common.{Some, pos}
 use Rattle.strat_text.specs.Form.{value_from}
 use Rattle.strat_text.proofs.read_probe.atom.Goals as goal
 

@@ -1,4 +1,4 @@
-use Rattle.std.proofs.Common.{◌≡◌, drop, ap, sym, subst, ◌∙◌}
+use Rattle.std.proofs.Common.{drop, ap, sym, subst, ◌∙◌}
 use Rattle.strat_text.specs.Form.{form_of, forms_of}
 use Rattle.strat_text.specs.Reading.{and_then, read_setting, read_settings, appended, alone}
 use Rattle.strat_text.specs.Given.{Gives, behind_settings}

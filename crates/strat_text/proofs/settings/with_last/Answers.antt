@@ -1,5 +1,5 @@
-use Rattle.std.proofs.Common.{◌≡◌, None, Ok, ap, sym, ◌∙◌}
-use Rattle.strat_text.specs.Form.{form_of, forms_of}
+use Rattle.std.proofs.Common.{None, Ok, ap, ◌∙◌}
+use Rattle.strat_text.specs.Form.{form_of}
 use Rattle.strat_text.specs.Reading.{and_then, read_key}
 use Rattle.strat_text.proofs.Gives.{gives_handed}
 use Rattle.strat_text.proofs.Readings.{settings_end, settings_odd}

@@ -1,6 +1,5 @@
-use Rattle.std.proofs.Common.{sym, subst, Err, refl, All, List, ℕ}
+use Rattle.std.proofs.Common.{sym, subst, Err, refl, All}
 use Rattle.qterm.specs.declared.name.Sort.TheVariants as sort
-use Rattle.qterm.specs.Tree.{Tree}
 use Rattle.qterm.specs.Store.{HasSort, trees_of}
 use Rattle.tac_cert.specs.Accepts.{as_items}
 use Rattle.qgoal.specs.Goal.{goal_tree}
