@@ -1,0 +1,5 @@
+pub mod Known
+pub mod Places
+pub mod Stack
+pub mod Growing
+pub mod Written

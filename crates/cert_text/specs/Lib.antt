@@ -1,0 +1,4 @@
+pub mod TermLines
+pub mod StepLines
+pub mod CertText
+pub mod Waiting
