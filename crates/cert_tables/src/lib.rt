@@ -1,4 +1,4 @@
-//! Tables of certificates that are accepted or refused. There is no other code here.
+//! Tables of certificates that are accepted or refused, and of their texts. There is no other code here.
 #![tactic(auto)]
 
 #[cfg(test)]
@@ -9,3 +9,5 @@ mod limits;
 mod rules;
 #[cfg(test)]
 mod texts;
+#[cfg(test)]
+mod written;

@@ -1,5 +1,5 @@
 -- The lines of terms that come one after the other, and which terms have lines then.
-use Rattle.std.proofs.Common.{◌≡◌, ℕ, Bool, true, false, ◌||◌, if◌then◌else◌, true≢false, List, [], ◌∷◌, ◌++◌, All, refl, ap, sym, subst, ◌∙◌, append_assoc, append-nil}
+use Rattle.std.proofs.Common.{◌≡◌, ℕ, Bool, true, false, ◌||◌, if◌then◌else◌, true≢false, List, [], ◌∷◌, ◌++◌, refl, ap, sym, subst, ◌∙◌, append_assoc, append-nil}
 use Rattle.std.specs.List.{list_any}
 use Rattle.std.specs.Ordering.{is_eq}
 use Rattle.std.specs.declared.cmp.Ordering.{Ordering}
@@ -57,7 +57,7 @@ unfolding term_lines with_lines
 term_lines-append known [] vs = refl
 term_lines-append known (u ∷ us) vs =
     either (λ b. (if b then term_lines known (us ++ vs) else (term_line known u ++ term_lines (known ++ u ∷ []) (us ++ vs)))
-                   ≡ (if b then term_lines known us else (term_line known u ++ term_lines (known ++ u ∷ []) us)) ++ term_lines (if b then with_lines known us else with_lines (known ++ u ∷ []) us) vs) (has_line known u)
+    ≡ (if b then term_lines known us else (term_line known u ++ term_lines (known ++ u ∷ []) us)) ++ term_lines (if b then with_lines known us else with_lines (known ++ u ∷ []) us) vs) (has_line known u)
     (term_lines-append known us vs)
     (ap (λ (bs : List ℕ). term_line known u ++ bs) (term_lines-append (known ++ u ∷ []) us vs) ∙ sym (append_assoc (term_line known u) (term_lines (known ++ u ∷ []) us) (term_lines (with_lines (known ++ u ∷ []) us) vs)))
 

@@ -1,5 +1,5 @@
 -- The place of an id among those that have lines is the place of its tree among theirs.
-use Rattle.std.proofs.Common.{◌≡◌, ℕ, ◌+◌, ◌<◌, ◌≤◌, Bool, true, false, not, ◌||◌, cond, nat_lt, true≢false, List, [], ◌∷◌, length, map, All, Some, None, inl, inr, refl, ap, sym, ◌∙◌, arith, rules}
+use Rattle.std.proofs.Common.{◌≡◌, ℕ, ◌+◌, Bool, true, false, not, ◌||◌, cond, nat_lt, true≢false, List, [], ◌∷◌, length, map, All, Some, None, inl, inr, refl, ap, sym, ◌∙◌, arith, rules}
 use Rattle.std.specs.Option.{unwrap_or}
 use Rattle.std.specs.List.{list_any, position, position_or_len}
 use Rattle.std.proofs.lemmas.Bool.{cases_lt}

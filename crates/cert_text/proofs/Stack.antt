@@ -1,16 +1,16 @@
 -- What waits on the stack comes in order, and each task is due once those above it are done.
-use Rattle.std.proofs.Common.{◌≡◌, ℕ, ◌+◌, ◌*◌, ◌<◌, ◌≤◌, true, false, List, [], ◌∷◌, ◌++◌, length, drop, get_or, All, Some, refl, ap, sym, subst, ◌∙◌, arith, append_assoc, append-nil, length-append}
+use Rattle.std.proofs.Common.{◌≡◌, ℕ, ◌+◌, ◌*◌, ◌<◌, List, [], ◌∷◌, ◌++◌, length, drop, get_or, All, Some, refl, ap, sym, subst, ◌∙◌, arith, append_assoc, append-nil, length-append}
 use Rattle.std.proofs.lemmas.List.{drop_more, drop_all}
 use Rattle.std.proofs.lemmas.List.Elements.{All-head, All-tail, All-push, All-append, All-nil, All-cons, All-pop}
-use Rattle.qterm.specs.Tree.{Tree, Trees, none, more}
+use Rattle.qterm.specs.Tree.{Tree}
 use Rattle.qterm.specs.Kids.{kids}
 use Rattle.qterm.specs.Store.{tree_at, trees_of, trees_at, Has}
 use Rattle.qwalk.specs.Subterms.{subterms, subterms_all}
 use Rattle.qwalk.proofs.SubtermsLaws.{subterms_kids, length-subterms}
 use Rattle.cert_text.specs.declared.terms.Task.{Task}
 use Rattle.cert_text.specs.declared.terms.Task.TheVariants.{Visit, Line}
-use Rattle.cert_text.specs.TermLines.{has_line, term_lines, with_lines}
-use Rattle.cert_text.specs.Waiting.{HaveLines, AreLines, task_trees, IsTask, visits, waiting, IsDue, AreDue, IsReady, Visited, passed, begun, cost, costs}
+use Rattle.cert_text.specs.TermLines.{term_lines, with_lines}
+use Rattle.cert_text.specs.Waiting.{HaveLines, AreLines, task_trees, IsTask, visits, waiting, IsDue, AreDue, IsReady, Visited, passed, begun, costs}
 use Rattle.cert_text.proofs.Known.{none_more, with_lines-append, term_lines-append, row_has, all_passed}
 
 -- ---- stacks one on the other
@@ -70,11 +70,13 @@ top_due ts known (q ∷ ps) p due = top_due ts known ps p due.1
 pub due_after : (ts known now : List Tree) (ps news : List Task) (p : Task) → AreDue ts known (ps ++ p ∷ []) → with_lines now (waiting ts news) ≡ with_lines known (task_trees ts p) → AreDue ts now news → AreDue ts now (ps ++ news)
 unfolding AreDue
 due_after ts known now [] news p due is all = all
-due_after ts known now (q ∷ ps) news p due is all =
-    (subst (λ (ks : List Tree). IsDue ts ks q)
+due_after ts known now (q ∷ ps) news p due is all = (
+  subst (λ (ks : List Tree). IsDue ts ks q)
       (ap (with_lines known) (waiting-append ts ps (p ∷ []) ∙ ap (λ (us : List Tree). us ++ waiting ts ps) (waiting-one ts p)) ∙ with_lines-append known (task_trees ts p) (waiting ts ps)
-        ∙ ap (λ (ks : List Tree). with_lines ks (waiting ts ps)) (sym is) ∙ sym (with_lines-append now (waiting ts news) (waiting ts ps)) ∙ ap (with_lines now) (sym (waiting-append ts ps news)))
-      due.0, due_after ts known now ps news p due.1 is all)
+      ∙ ap (λ (ks : List Tree). with_lines ks (waiting ts ps)) (sym is) ∙ sym (with_lines-append now (waiting ts news) (waiting ts ps)) ∙ ap (with_lines now) (sym (waiting-append ts ps news)))
+      due.0,
+  due_after ts known now ps news p due.1 is all,
+)
 
 -- ---- the tasks behind the one on top, and that one
 pub tasks_rest : (ts : List Tree) (ps : List Task) (p : Task) → All (IsTask ts) (ps ++ p ∷ []) → All (IsTask ts) ps

@@ -69,12 +69,7 @@ fn turn(
 }
 
 /// Puts visits of the terms below a term without a line, and its line behind them, on the stack.
-fn visit(
-    lines: &Lines,
-    tasks: &mut Vec<Task>,
-    store: &Store,
-    id: TermId,
-) -> Result<(), AllocError>
+fn visit(lines: &Lines, tasks: &mut Vec<Task>, store: &Store, id: TermId) -> Result<(), AllocError>
     requires has { Has store.now id }
     requires lines { All (Has store.now) lines.now }
     ensures { OnOk result (Visited store.now (trees_of store.now lines.now) id tasks.old.items tasks.new.items) }

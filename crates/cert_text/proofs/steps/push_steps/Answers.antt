@@ -1,6 +1,5 @@
-use Rattle.std.proofs.Common.{◌≡◌, ◌++◌, ℕ, List, ap, sym, refl, ◌∙◌}
+use Rattle.std.proofs.Common.{◌++◌, ap, sym, refl, ◌∙◌}
 use Rattle.qterm.specs.Store.{trees_of}
-use Rattle.cert_text.specs.CertText.{Written, steps_then}
 use Rattle.cert_text.proofs.Written.{step_text_taken, step_known_taken, steps_done}
 use Rattle.cert_text.proofs.steps.push_steps.Goals as goal
 

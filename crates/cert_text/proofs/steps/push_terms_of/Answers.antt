@@ -77,10 +77,10 @@ returns-in_ok-push_terms-in-Subst-clause-text c =
     let then = c.in_ok-push_terms-in-Subst.ensures.known in
     on_ok_weaker c.push_terms-in-Subst-2.result
     (λ e. e ∙ ap (λ (bs : List ℕ). bs ++ term_lines (trees_of c.args.store.now c.push_terms-in-Subst.new.lines) (subterms t)) first
-      ∙ ap (λ (ks : List Tree). (c.args.text.now.items ++ term_lines known (subterms s)) ++ term_lines ks (subterms t)) then
-      ∙ append_assoc c.args.text.now.items (term_lines known (subterms s)) (term_lines (with_lines known (subterms s)) (subterms t))
-      ∙ ap (λ (bs : List ℕ). c.args.text.now.items ++ bs) (sym (term_lines-append known (subterms s) (subterms t)))
-      ∙ ap (λ us. c.args.text.now.items ++ term_lines known us) (sym (of_two s t (terms_of c.args.store.now c.args.step.now) is))) c.push_terms-in-Subst-2.ensures.text
+    ∙ ap (λ (ks : List Tree). (c.args.text.now.items ++ term_lines known (subterms s)) ++ term_lines ks (subterms t)) then
+    ∙ append_assoc c.args.text.now.items (term_lines known (subterms s)) (term_lines (with_lines known (subterms s)) (subterms t))
+    ∙ ap (λ (bs : List ℕ). c.args.text.now.items ++ bs) (sym (term_lines-append known (subterms s) (subterms t)))
+    ∙ ap (λ us. c.args.text.now.items ++ term_lines known us) (sym (of_two s t (terms_of c.args.store.now c.args.step.now) is))) c.push_terms-in-Subst-2.ensures.text
 
 pub returns-in_ok-push_terms-in-Subst-clause-known : goal.returns-in_ok-push_terms-in-Subst-clause-known
 returns-in_ok-push_terms-in-Subst-clause-known c =
@@ -91,7 +91,7 @@ returns-in_ok-push_terms-in-Subst-clause-known c =
     let then = c.in_ok-push_terms-in-Subst.ensures.known in
     on_ok_weaker c.push_terms-in-Subst-2.result
     (λ e. e ∙ ap (λ (ks : List Tree). with_lines ks (subterms t)) then ∙ sym (with_lines-append known (subterms s) (subterms t))
-      ∙ ap (with_lines known) (sym (of_two s t (terms_of c.args.store.now c.args.step.now) is))) c.push_terms-in-Subst-2.ensures.known
+    ∙ ap (with_lines known) (sym (of_two s t (terms_of c.args.store.now c.args.step.now) is))) c.push_terms-in-Subst-2.ensures.known
 
 -- the other steps name no term
 names_none : (ts : List Tree) (s : Step) → ((i f : ℕ) → s ≡ step.Rw i f → ⊥) → ((y : Name) (t : ℕ) → s ≡ step.Def y t → ⊥) → ((i s' t j : ℕ) → s ≡ step.Subst i s' t j → ⊥) → ((i c : ℕ) → s ≡ step.Table i c → ⊥) → ((c : ℕ) (is : List ℕ) → s ≡ step.Rup c is → ⊥)

@@ -1,4 +1,4 @@
-use Rattle.std.proofs.Common.{◌≡◌, ◌+◌, ◌≤◌, ◌++◌, ℕ, List, map, take, length, ap, sym, ◌∙◌, arith, rules}
+use Rattle.std.proofs.Common.{◌++◌, ℕ, List, map, ap, sym, ◌∙◌, arith, rules}
 use Rattle.std.proofs.lemmas.List.{take_all}
 use Rattle.strat_text.specs.Spelled.{spaced}
 use Rattle.qterm.specs.Store.{tree_at, trees_of}

@@ -1,12 +1,10 @@
-use Rattle.std.proofs.Common.{◌≡◌, ◌+◌, ◌++◌, ◌∷◌, [], ℕ, List, length, decimal, ap, sym, ◌∙◌, append_assoc, append-nil, OnOk}
+use Rattle.std.proofs.Common.{◌≡◌, ap, sym, ◌∙◌}
 use Rattle.std.specs.List.{position, position_or_len}
 use Rattle.std.specs.Option.{unwrap_or}
 use Rattle.std.proofs.lemmas.Result.{on_ok_weaker}
-use Rattle.strat_text.specs.Spelled.{spaced}
 use Rattle.qterm.specs.Store.{tree_at, trees_of}
 use Rattle.qlin.specs.Order.{same}
 use Rattle.qwalk.specs.Walk.{same_id}
-use Rattle.cert_text.specs.TermLines.{reference}
 use Rattle.cert_text.proofs.Growing.{reference_written}
 use Rattle.cert_text.proofs.Places.{line_place, or_len}
 use Rattle.cert_text.proofs.terms.push_reference.Goals as goal

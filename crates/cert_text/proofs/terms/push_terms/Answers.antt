@@ -1,5 +1,5 @@
 use Rattle.std.proofs.Common.{◌≡◌, ◌++◌, ◌∷◌, [], ℕ, List, length, ap, sym, subst, ◌∙◌, append-nil, arith}
-use Rattle.qterm.specs.Store.{tree_at, trees_of}
+use Rattle.qterm.specs.Store.{trees_of}
 use Rattle.cert_text.specs.declared.terms.Task.{Task}
 use Rattle.cert_text.specs.declared.terms.Task.TheVariants.{Visit}
 use Rattle.cert_text.specs.TermLines.{term_lines, with_lines}

@@ -1,7 +1,6 @@
 use Rattle.std.proofs.Common.{◌≡◌, ◌++◌, ◌∷◌, ◌<◌, [], ℕ, List, ap, sym, subst, ◌∙◌}
 use Rattle.std.proofs.lemmas.Result.{on_ok_weaker}
-use Rattle.qterm.specs.Store.{tree_at, trees_of}
-use Rattle.cert_text.specs.declared.terms.Task.{Task}
+use Rattle.qterm.specs.Store.{trees_of}
 use Rattle.cert_text.specs.declared.terms.Task.TheVariants.{Visit, Line}
 use Rattle.cert_text.specs.TermLines.{term_lines, with_lines}
 use Rattle.cert_text.specs.Waiting.{IsReady, AreDue, waiting, costs}
@@ -30,8 +29,8 @@ returns-in-Visit-clause-text c =
     let known = trees_of c.args.store.now c.args.lines.now in
     on_ok_weaker c.visit.result
     (λ v. ap (λ (bs : List ℕ). c.args.text.now.items ++ bs)
-      ((visited_same c.args.store.now c.args.lines.now ps c.visit.new.tasks.items c.in-Visit.id (subst (λ p. IsReady c.args.store.now c.args.lines.now (ps ++ p ∷ [])) is c.requires.ready) v).0
-        ∙ ap (λ p. term_lines known (waiting c.args.store.now (ps ++ p ∷ []))) (sym is))) c.visit.ensures
+    ((visited_same c.args.store.now c.args.lines.now ps c.visit.new.tasks.items c.in-Visit.id (subst (λ p. IsReady c.args.store.now c.args.lines.now (ps ++ p ∷ [])) is c.requires.ready) v).0
+    ∙ ap (λ p. term_lines known (waiting c.args.store.now (ps ++ p ∷ []))) (sym is))) c.visit.ensures
 
 pub returns-in-Visit-clause-known : goal.returns-in-Visit-clause-known
 returns-in-Visit-clause-known c =
@@ -40,7 +39,7 @@ returns-in-Visit-clause-known c =
     let known = trees_of c.args.store.now c.args.lines.now in
     on_ok_weaker c.visit.result
     (λ v. (visited_same c.args.store.now c.args.lines.now ps c.visit.new.tasks.items c.in-Visit.id (subst (λ p. IsReady c.args.store.now c.args.lines.now (ps ++ p ∷ [])) is c.requires.ready) v).1
-      ∙ ap (λ p. with_lines known (waiting c.args.store.now (ps ++ p ∷ []))) (sym is)) c.visit.ensures
+    ∙ ap (λ p. with_lines known (waiting c.args.store.now (ps ++ p ∷ []))) (sym is)) c.visit.ensures
 
 pub returns-in-Visit-clause-less : goal.returns-in-Visit-clause-less
 returns-in-Visit-clause-less c =
@@ -48,7 +47,7 @@ returns-in-Visit-clause-less c =
     let ps = c.args.tasks.now.items in
     on_ok_weaker c.visit.result
     (λ v. subst (λ p. costs c.args.store.now c.visit.new.tasks.items < costs c.args.store.now (ps ++ p ∷ [])) (sym is)
-      (visited_less c.args.store.now (trees_of c.args.store.now c.args.lines.now) ps c.visit.new.tasks.items c.in-Visit.id v)) c.visit.ensures
+    (visited_less c.args.store.now (trees_of c.args.store.now c.args.lines.now) ps c.visit.new.tasks.items c.in-Visit.id v)) c.visit.ensures
 
 pub returns-in-Line-clause-ready : goal.returns-in-Line-clause-ready
 returns-in-Line-clause-ready c =
@@ -64,7 +63,7 @@ returns-in-Line-clause-text c =
     let known = trees_of c.args.store.now c.args.lines.now in
     both_weaker c.write_line.result
     (λ text known_now. line_text c.args.store.now c.args.lines.now c.write_line.new.lines ps c.in-Line.id c.args.text.now.items c.write_line.new.text.items text known_now
-      ∙ ap (λ p. c.args.text.now.items ++ term_lines known (waiting c.args.store.now (ps ++ p ∷ []))) (sym is)) c.write_line.ensures.text c.write_line.ensures.known
+    ∙ ap (λ p. c.args.text.now.items ++ term_lines known (waiting c.args.store.now (ps ++ p ∷ []))) (sym is)) c.write_line.ensures.text c.write_line.ensures.known
 
 pub returns-in-Line-clause-known : goal.returns-in-Line-clause-known
 returns-in-Line-clause-known c =

@@ -1,11 +1,7 @@
-use Rattle.std.proofs.Common.{◌≡◌, ◌≤◌, ◌+◌, ◌-◌, ◌++◌, ◌∷◌, ℕ, List, zero, suc, drop, length, true, false, is_some, ap, sym, refl, ◌∙◌, arith, rules}
-use Rattle.std.proofs.lemmas.List.{drop_all}
-use Rattle.qterm.specs.Store.{tree_at, trees_of, trees_at, Has}
+use Rattle.std.proofs.Common.{◌≡◌, ◌-◌, ◌++◌, ◌∷◌, drop, true, false, is_some, ap, sym, refl, ◌∙◌, arith, rules}
 use Rattle.qterm.specs.Kids.{kids, ids}
 use Rattle.qterm.proofs.KidsLaws.{kids_grow}
-use Rattle.cert_text.specs.declared.terms.Task.{Task}
 use Rattle.cert_text.specs.declared.terms.Task.TheVariants.{Line}
-use Rattle.cert_text.specs.TermLines.{has_line}
 use Rattle.cert_text.specs.Waiting.{visits, passed, begun}
 use Rattle.cert_text.proofs.Places.{line_any}
 use Rattle.cert_text.proofs.Stack.{visits_next, visits_first, visits_all}

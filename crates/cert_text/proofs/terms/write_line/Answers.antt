@@ -4,7 +4,7 @@ use Rattle.std.proofs.lemmas.List.Elements.{All-push}
 use Rattle.qterm.specs.Store.{tree_at, trees_of, Has}
 use Rattle.qterm.specs.Kids.{kids, listed}
 use Rattle.qterm.proofs.KidsLaws.{trees_of-append}
-use Rattle.cert_text.specs.TermLines.{has_line, term_line, term_lines, with_lines, head_texts, reference}
+use Rattle.cert_text.specs.TermLines.{term_line, term_lines, head_texts, reference}
 use Rattle.cert_text.proofs.Known.{IsClosed, passed_one, added_one, none_more, closed_more}
 use Rattle.cert_text.proofs.Growing.{more_words, whole_line}
 use Rattle.cert_text.proofs.Places.{line_any}

@@ -1,4 +1,4 @@
-use Rattle.std.proofs.Common.{◌+◌, decimal, arith, rules}
+use Rattle.std.proofs.Common.{decimal, arith, rules}
 use Rattle.cert_text.proofs.Growing.{row_word}
 use Rattle.cert_text.proofs.words.push_counts.Goals as goal
 

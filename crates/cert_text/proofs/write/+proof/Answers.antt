@@ -1,19 +1,18 @@
-use Rattle.std.proofs.Common.{◌≡◌, ◌++◌, ◌-◌, ◌<◌, ◌*◌, ◌+◌, [], ℕ, List, inl, ap, sym, subst, refl, ◌∙◌, append-nil, arith, rules}
+use Rattle.std.proofs.Common.{◌≡◌, ◌++◌, ◌-◌, inl, ap, sym, subst, ◌∙◌, append-nil, arith}
 use Rattle.std.proofs.lemmas.Result.{on_ok_weaker}
-use Rattle.qterm.specs.Tree.{Tree}
 use Rattle.qterm.specs.Store.{trees_of}
-use Rattle.tac_cert.specs.declared.cert.Proof.{out-Proof}
 use Rattle.tac_cert.specs.declared.cert.Close.{out-Close}
 use Rattle.tac_cert.specs.declared.cert.Close.TheVariants as close
-use Rattle.tac_cert.specs.Accepts.{EachFits, StepsFit, ProofFits}
-use Rattle.cert_text.specs.CertText.{Written, each_case, steps_then, written, close_line}
+use Rattle.tac_cert.specs.Accepts.{EachFits, ProofFits}
+use Rattle.cert_text.specs.CertText.{each_case, steps_then, written}
 use Rattle.cert_text.proofs.Written.{case_text_taken, case_known_taken, cases_done, fits_at, cases_fit, ending, split_text, split_known, other_text, other_known}
 use Rattle.cert_text.proofs.write.+proof.Goals as goal
 
 pub push_cases-push_proof-requires : goal.push_cases-push_proof-requires
-push_cases-push_proof-requires t c =
-    (omega (arith, c.decreases),
-      (subst (ProofFits c.args.store.now c.args.left) (sym c.case-item.is) (fits_at (ProofFits c.args.store.now c.args.left) c.args.cases.now c.loop-case.case-index c.case-item.result c.requires.fits c.loop-case-test.true), c.loop-case.invariant.lines))
+push_cases-push_proof-requires t c = (
+  omega (arith, c.decreases),
+  (subst (ProofFits c.args.store.now c.args.left) (sym c.case-item.is) (fits_at (ProofFits c.args.store.now c.args.left) c.args.cases.now c.loop-case.case-index c.case-item.result c.requires.fits c.loop-case-test.true), c.loop-case.invariant.lines),
+)
 
 pub push_cases-loop-case-preserved : goal.push_cases-loop-case-preserved
 push_cases-loop-case-preserved t c =
@@ -41,9 +40,10 @@ push_cases-returns t c =
 -- the cases of a closing line
 pub push_proof-push_cases-requires : goal.push_proof-push_cases-requires
 push_proof-push_cases-requires t c =
-    let is = ap out-Close c.in-Split.is ∙ close.outs-Split c.in-Split.item c.in-Split.cases in
-    (omega (arith, c.decreases, c.if-left-gt0.true),
-      (subst (EachFits (ProofFits c.args.store.now (c.args.left - 1))) (sym c.as_slice-in-Split.ensures) (cases_fit c.args.store.now c.args.left c.in-Split.item c.args.proof.now c.in-Split.cases c.if-left-gt0.true is c.requires.fits), c.in_ok-push_steps.ensures.lines))
+    let is = ap out-Close c.in-Split.is ∙ close.outs-Split c.in-Split.item c.in-Split.cases in (
+      omega (arith, c.decreases, c.if-left-gt0.true),
+      (subst (EachFits (ProofFits c.args.store.now (c.args.left - 1))) (sym c.as_slice-in-Split.ensures) (cases_fit c.args.store.now c.args.left c.in-Split.item c.args.proof.now c.in-Split.cases c.if-left-gt0.true is c.requires.fits), c.in_ok-push_steps.ensures.lines),
+    )
 
 pub push_proof-returns-in-Split-clause-text : goal.push_proof-returns-in-Split-clause-text
 push_proof-returns-in-Split-clause-text t c =
@@ -55,8 +55,8 @@ push_proof-returns-in-Split-clause-text t c =
     let is = ap out-Close c.in-Split.is ∙ close.outs-Split c.in-Split.item c.in-Split.cases in
     on_ok_weaker c.push_cases.result
     (λ e. split_text ts known now c.args.left c.in-Split.item p c.in-Split.cases c.args.text.now.items c.push_steps.new.text.items c.push_close.new.text.items c.push_cases.new.text.items c.if-left-gt0.true is
-      (c.in_ok-push_steps.ensures.text (ending of p) ∙ ap (λ ss. c.args.text.now.items ++ (steps_then ts known ss (ending of p)).text) c.as_slice.ensures) c.in_ok-push_close.ensures
-      (e ∙ ap (λ ps. c.push_close.new.text.items ++ (each_case of now ps).text) c.as_slice-in-Split.ensures)) c.push_cases.ensures.text
+    (c.in_ok-push_steps.ensures.text (ending of p) ∙ ap (λ ss. c.args.text.now.items ++ (steps_then ts known ss (ending of p)).text) c.as_slice.ensures) c.in_ok-push_close.ensures
+    (e ∙ ap (λ ps. c.push_close.new.text.items ++ (each_case of now ps).text) c.as_slice-in-Split.ensures)) c.push_cases.ensures.text
 
 pub push_proof-returns-in-Split-clause-known : goal.push_proof-returns-in-Split-clause-known
 push_proof-returns-in-Split-clause-known t c =
@@ -68,8 +68,8 @@ push_proof-returns-in-Split-clause-known t c =
     let is = ap out-Close c.in-Split.is ∙ close.outs-Split c.in-Split.item c.in-Split.cases in
     on_ok_weaker c.push_cases.result
     (λ e. split_known ts known now (trees_of ts c.push_cases.new.lines) c.args.left c.in-Split.item p c.in-Split.cases c.if-left-gt0.true is
-      (c.in_ok-push_steps.ensures.known (ending of p) ∙ ap (λ ss. (steps_then ts known ss (ending of p)).known) c.as_slice.ensures)
-      (e ∙ ap (λ ps. (each_case of now ps).known) c.as_slice-in-Split.ensures)) c.push_cases.ensures.known
+    (c.in_ok-push_steps.ensures.known (ending of p) ∙ ap (λ ss. (steps_then ts known ss (ending of p)).known) c.as_slice.ensures)
+    (e ∙ ap (λ ps. (each_case of now ps).known) c.as_slice-in-Split.ensures)) c.push_cases.ensures.known
 
 -- no split may stand any more
 pub push_proof-returns-in_default-clause-text : goal.push_proof-returns-in_default-clause-text

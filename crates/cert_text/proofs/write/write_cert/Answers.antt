@@ -1,5 +1,4 @@
 use Rattle.std.proofs.Common.{◌≡◌, ◌++◌, [], ℕ, List, codes, ap, ◌∙◌, append_assoc}
-use Rattle.qterm.specs.Tree.{Tree}
 use Rattle.qterm.specs.Store.{trees_of}
 use Rattle.tac_cert.specs.Accepts.{most_splits}
 use Rattle.cert_text.specs.TermLines.{line}
