@@ -23,7 +23,7 @@ fn text_of(alloc: Global, row: Row) -> Result<Vec<u8>, AllocError> {
 }
 
 /// Each term has one line, in front of the first step that names it; names are quoted where they must be.
-const TEXTS: [Row; 5] = [
+const TEXTS: [Row; 6] = [
     (
         "false",
         (1, 2),
@@ -47,6 +47,12 @@ const TEXTS: [Row; 5] = [
         (4294967295, 1),
         "bits X a :let; bits Y; bit X :1a; mul 2 -3; add 1 2 d e; cmp 3 4 f; eqc 3 -1 g h; table 5 #1; split 6 2; false 1; rup #1; false 2",
         b"tacert 1 4294967295 1\nbits X a |let|\nbits Y\nbit X |1a|\nmul 2 -3\nadd 1 2 d e\ncmp 3 4 f\neqc 3 -1 g h\n. bool p\n. not #1\ntable 5 #2\nsplit 6 2\nfalse 1\nrup #2\nfalse 2\nend\n",
+    ),
+    (
+        "p q |2  p !  q !  false",
+        (1, 3),
+        "split 1 2; rup #4 2 4; false 5; rup #4 3 4; false 5",
+        b"tacert 1 1 3\nsplit 1 2\n. false\nrup #1 2 4\nfalse 5\nrup #1 3 4\nfalse 5\nend\n",
     ),
     (
         "p  p !",
