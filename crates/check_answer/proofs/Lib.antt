@@ -1,0 +1,4 @@
+pub mod Verdicts
+pub mod Models
+pub mod Accepted
+pub mod Refutations

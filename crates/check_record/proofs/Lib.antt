@@ -1,0 +1,6 @@
+pub mod Levels
+pub mod Ending
+pub mod Telling
+pub mod Recording
+pub mod Whole
+pub mod Named
