@@ -101,7 +101,11 @@ const CHECKS: [Row; 16] = [
     ("p", "(fail-if (= size 2))", Found::Goals(1)),
     ("p!x2<|", "(then simplify sat)", Found::NotClausal(1)),
     ("pq|pq!|p!q|p!q!|", "(try-for sat 0)", Found::Spent(1)),
-    ("pq|pq!|p!q|p!q!|", "(or-else (try-for sat 0) sat)", Found::Unsat),
+    (
+        "pq|pq!|p!q|p!q!|",
+        "(or-else (try-for sat 0) sat)",
+        Found::Unsat,
+    ),
     ("pq|", "(repeat simplify 0)", Found::Goals(1)),
 ];
 
@@ -227,8 +231,14 @@ fn records_tell_what_strategies_decide(rt: HostRuntime) -> Result<(), Fail> {
     let alloc = rt.alloc();
     let mut registry = Registry::new(alloc);
     let skip = registry.insert(ReducerName::new(alloc, b"skip")?, Box::new(alloc, Skip)?);
-    let fail = registry.insert(ReducerName::new(alloc, b"fail")?, Box::new(alloc, FailReducer)?);
-    let simplify = registry.insert(ReducerName::new(alloc, b"simplify")?, Box::new(alloc, Simplify)?);
+    let fail = registry.insert(
+        ReducerName::new(alloc, b"fail")?,
+        Box::new(alloc, FailReducer)?,
+    );
+    let simplify = registry.insert(
+        ReducerName::new(alloc, b"simplify")?,
+        Box::new(alloc, Simplify)?,
+    );
     let sat = registry.insert(ReducerName::new(alloc, b"sat")?, Box::new(alloc, Sat)?);
     assert!(rt; is_in(skip) && is_in(fail) && is_in(simplify) && is_in(sat));
     run(&rt, alloc, &registry, &CHECKS, false)?;
