@@ -1,5 +1,5 @@
 //! Checks and runs alone, as a table, with what their records answer.
-ghost use Rattle.std.specs.Prelude.{◌≡◌, ◌↔◌, ◌≤ℤ◌, pos, All, IfOk, IsTrue, true};
+ghost use Rattle.std.specs.Prelude.{◌≡◌, ◌↔◌, All, IfOk, IsTrue, true};
 ghost use Rattle.qterm.specs.declared.name.Sort.TheVariants.{Bool};
 ghost use Rattle.qterm.specs.Store.{HasSort, Extends, trees_of};
 ghost use Rattle.goal_depth.specs.Depths.{AreShallow};
@@ -30,10 +30,10 @@ fn are_formulas(store: &Store, ids: &[TermId]) -> bool
         .all(|id| store.has(*id) && store.sort(*id) == Sort::Bool)
 }
 
-/// How deep the formulas are.
-fn depth_of(alloc: Global, store: &mut Store, ids: &[TermId]) -> Result<i128, AllocError>
+/// Whether the formulas are at most 100 deep, so that a check may begin with them.
+fn are_shallow(alloc: Global, store: &mut Store, ids: &[TermId]) -> Result<bool, AllocError>
     requires formulas { All (HasSort Bool store.old) ids.now }
-    ensures shallow { IfOk result (λ depth. depth ≤ℤ pos 100 → AreShallow (trees_of store.new ids.now)) }
+    ensures shallow { IfOk result (λ yes. IsTrue yes → AreShallow (trees_of store.new ids.now)) }
     ensures formulas { IfOk result (λ _. All (HasSort Bool store.new) ids.now) }
 {
     let goal = Goal {
@@ -41,7 +41,7 @@ fn depth_of(alloc: Global, store: &mut Store, ids: &[TermId]) -> Result<i128, Al
         precision: Precision::Precise,
     };
     let depth = probe(alloc, store, &goal, &ProbeExpr::Depth)?;
-    Ok(depth)
+    Ok(depth <= 100)
 }
 
 /// What an answer is in short.
@@ -154,7 +154,55 @@ fn is_accepted(
     }
 }
 
-/// What a row answers, where its assertions are formulas within the limits and its strategy may run.
+/// What a record answers in short, where its certificate, if it has one, is accepted.
+fn in_short(
+    alloc: Global,
+    store: &mut Store,
+    ids: &[TermId],
+    record: &CheckRecord,
+) -> Result<Found, AllocError> {
+    if is_accepted(alloc, store, ids, record)? {
+        Ok(of_answer(&record.answer))
+    } else {
+        Ok(Found::Other)
+    }
+}
+
+/// What a check of these assertions answers, or a run alone.
+fn found_by(
+    alloc: Global,
+    registry: &Registry,
+    store: &mut Store,
+    ids: &[TermId],
+    strategy: &Strategy,
+    alone: bool,
+) -> Result<Found, AllocError>
+    requires formulas { All (HasSort Bool store.old) ids.now }
+    requires shallow { AreShallow (trees_of store.old ids.now) }
+    requires runs { runs (⟦<Registry as Reducers>⟧.kinds registry.now) strategy.now ≡ true }
+{
+    let record = record_of(alloc, registry, store, ids, strategy, alone)?;
+    in_short(alloc, store, ids, &record)
+}
+
+/// The same, where the assertions are formulas that are at most 100 deep, and the strategy may run.
+fn found_in(
+    alloc: Global,
+    registry: &Registry,
+    store: &mut Store,
+    ids: &[TermId],
+    strategy: &Strategy,
+    alone: bool,
+) -> Result<Found, AllocError> {
+    if are_formulas(store, ids) && can_run(registry, strategy) {
+        if are_shallow(alloc, store, ids)? {
+            return found_by(alloc, registry, store, ids, strategy, alone);
+        }
+    }
+    Err(AllocError)
+}
+
+/// What a row answers.
 fn found_of(
     alloc: Global,
     registry: &Registry,
@@ -164,46 +212,14 @@ fn found_of(
     let mut store = Store::new(alloc);
     let ids = asserts(alloc, &mut store, row.0)?;
     let strategy = strategy(alloc, row.1)?;
-    if !are_formulas(&store, ids.as_slice()) {
-        return Err(AllocError);
-    }
-    let depth = depth_of(alloc, &mut store, ids.as_slice())?;
     found_in(
         alloc,
         registry,
         &mut store,
         ids.as_slice(),
         &strategy,
-        depth,
         alone,
     )
-}
-
-/// What a check of these assertions with that depth answers.
-fn found_in(
-    alloc: Global,
-    registry: &Registry,
-    store: &mut Store,
-    ids: &[TermId],
-    strategy: &Strategy,
-    depth: i128,
-    alone: bool,
-) -> Result<Found, AllocError>
-    requires formulas { All (HasSort Bool store.old) ids.now }
-    requires shallow { depth ≤ℤ pos 100 → AreShallow (trees_of store.old ids.now) }
-{
-    if depth > 100 {
-        return Err(AllocError);
-    }
-    if !can_run(registry, strategy) {
-        return Err(AllocError);
-    }
-    let record = record_of(alloc, registry, store, ids, strategy, alone)?;
-    if is_accepted(alloc, store, ids, &record)? {
-        Ok(of_answer(&record.answer))
-    } else {
-        Ok(Found::Other)
-    }
 }
 
 /// Whether a reducer was inserted.
