@@ -166,7 +166,7 @@ module _ (c : Setting) (top : ℕ) (ts : List Tree) (p s : Strategy) (g : GoalTr
         most = h.most ∙ ap (λ (k : ℕ). max k d.spent) is.most ∙ sym (most_push is.parts (part.Stopped d));
       }
 
-ok_beside : (x y : Beside) → ◌≡◌ {A = Result Beside RunStop} (Ok x) (Ok y) → x ≡ y
+pub ok_beside : (x y : Beside) → ◌≡◌ {A = Result Beside RunStop} (Ok x) (Ok y) → x ≡ y
 ok_beside x y e = cc
 
 pub ended_result : (b : Beside) (ran : Ran) (res : Result Beside RunStop) → IfOk res (λ more. HasEnded b more ran) → (c : Setting) (top : ℕ) (ts : List Tree) (q s : Strategy) (g : GoalTree) (l : Option ℕ) (ps : Params) (n : ℕ) (goal : Goal) → AreBeside c top ts q s g l ps n b → IsNextBeside b goal

@@ -6,3 +6,4 @@ pub mod Ending
 pub mod Finishing
 pub mod Closing
 pub mod Joining
+pub mod Drawing

@@ -3,3 +3,4 @@ pub mod Rows
 pub mod Ends
 pub mod Beside
 pub mod BesideEnds
+pub mod Drawn

@@ -4,11 +4,14 @@ ghost use Rattle.qterm.specs.Tree.{Tree};
 ghost use Rattle.qgoal.specs.declared.goal.Goal.{Goal};
 ghost use Rattle.qgoal.specs.Goal.{GoalTree, HasGoal, goal_tree};
 ghost use Rattle.strat_text.specs.declared.strategy.Strategy.{Strategy};
+ghost use Rattle.race_word.specs.declared.view.View.{View};
 ghost use Rattle.deriv.specs.declared.params.Params.{Params};
 ghost use Rattle.reducer_iface.specs.Depths.{IsShallow};
 ghost use Rattle.lang_runs.specs.Runs.{Setting, IsRun};
+ghost use Rattle.lang_runs.specs.Drawn.{Tally};
 ghost use Rattle.lang_runs.specs.declared.ran.RunStop.TheVariants as stops;
 ghost use Rattle.lang_rows.specs.Beside.{AreBeside, IsPart, IsNextBeside, AreAllDone, cause_of, first_of, HasEnded, HasStopped};
+ghost use Rattle.lang_rows.specs.Drawn.{BesideTally, PartTally};
 
 use crate::joined::{Joined, Reached};
 use crate::row::{at, spend};
@@ -55,6 +58,7 @@ impl Beside {
     /// The second hasn't run yet.
     pub fn new(alloc: Global, first: Ran, limit: Option<u64>) -> Beside
         ensures beside { (c : Setting) (top : ℕ) (ts : List Tree) (p r : Strategy) (g : GoalTree) (ps : Params) (n : ℕ) → IsRun c top ts p g limit ps n first → AreBeside c top ts p r g limit ps n result }
+        ensures draws { (old new : View) → Tally old new first.deriv → BesideTally old new result }
     {
         let left = remains(limit, first.deriv.spent);
         Beside {
@@ -79,6 +83,7 @@ impl Beside {
     pub fn with(self, part: Part) -> Result<Beside, RunStop>
         ensures beside { (c : Setting) (top : ℕ) (ts : List Tree) (p r : Strategy) (g : GoalTree) (l : Option ℕ) (ps : Params) (n : ℕ) (goal : Goal) → AreBeside c top ts p r g l ps n self → IsNextBeside self goal → IsPart c top ts r (goal_tree ts goal) self.left ps n part → (more : Beside) → result ≡ Ok more → AreBeside c top ts p r g l ps n more }
         ensures grows { (more : Beside) → result ≡ Ok more → (more.first ≡ self.first) × (length more.derivs ≡ length self.derivs + 1) }
+        ensures draws { (before old new : View) → BesideTally before old self → PartTally old new part → (more : Beside) → result ≡ Ok more → BesideTally before new more }
         ensures refused { IfErr result (λ stop. stop ≡ stops.Memory) }
     {
         match part {

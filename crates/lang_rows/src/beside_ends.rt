@@ -10,7 +10,9 @@ ghost use Rattle.race_word.specs.declared.view.View.{View};
 ghost use Rattle.deriv.specs.declared.params.Params.{Params};
 ghost use Rattle.deriv.specs.Derives.{DEEPEST};
 ghost use Rattle.lang_runs.specs.Runs.{Setting, IsRun, IsFailure, HasRun};
+ghost use Rattle.lang_runs.specs.Drawn.{Tally, RunTally};
 ghost use Rattle.lang_rows.specs.Rows.{is_sat_run};
+ghost use Rattle.lang_rows.specs.Drawn.{BesideTally};
 ghost use Rattle.lang_rows.specs.Beside.{AreBeside, IsNextBeside, AreAllDone, first_of};
 ghost use Rattle.lang_rows.specs.Ends.{too_many};
 ghost use Rattle.deriv.specs.declared.outcome.Outcome.TheVariants as outcome;
@@ -40,6 +42,7 @@ pub fn beside_first_failed(
     first: Deriv,
 ) -> Result<Ran, RunStop>
     ensures run { (c : Setting) (ts : List Tree) (s p r : Strategy) (ps : Params) (n : ℕ) (chain : List Place) (v : View) → HasGoal ts goal → n ≤ DEEPEST → s ≡ strategy.ParThen p r → IsFailure c v.top ts p (goal_tree ts goal) limit ps (n + 1) first → HasRun c ts s (goal_tree ts goal) limit ps n chain v result }
+    ensures draws { (old new : View) → Tally old new first → RunTally old new result }
 {
     let out = first.out.copy(alloc)?;
     let rest = Items::new(alloc);
@@ -56,6 +59,7 @@ pub fn finish_beside(
     beside: Beside,
 ) -> Result<Ran, RunStop>
     ensures run { (c : Setting) (ts : List Tree) (s p r : Strategy) (ps : Params) (n : ℕ) (chain : List Place) (v : View) → HasGoal ts goal → n ≤ DEEPEST → s ≡ strategy.ParThen p r → AreBeside c v.top ts p r (goal_tree ts goal) limit ps (n + 1) beside → AreAllDone beside → HasRun c ts s (goal_tree ts goal) limit ps n chain v result }
+    ensures draws { (old new : View) → BesideTally old new beside → RunTally old new result }
 {
     rows_are_honest();
     let Beside {
@@ -120,6 +124,7 @@ pub fn finish_beside_sat(
     last: Ran,
 ) -> Result<Ran, RunStop>
     ensures run { (c : Setting) (ts : List Tree) (s p r : Strategy) (ps : Params) (n : ℕ) (chain : List Place) (v : View) (next : Goal) → HasGoal ts goal → n ≤ DEEPEST → c.workers ≤ 1 → s ≡ strategy.ParThen p r → AreBeside c v.top ts p r (goal_tree ts goal) limit ps (n + 1) beside → IsNextBeside beside next → IsRun c v.top ts r (goal_tree ts next) beside.left ps (n + 1) last → is_sat_run ts last ≡ true → HasRun c ts s (goal_tree ts goal) limit ps n chain v result }
+    ensures draws { (before old new : View) → BesideTally before old beside → Tally old new last.deriv → RunTally before new result }
 {
     let Beside {
         first,

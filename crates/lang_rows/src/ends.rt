@@ -11,7 +11,9 @@ ghost use Rattle.deriv.specs.declared.params.Params.{Params};
 ghost use Rattle.deriv.specs.Outcome.{goal_trees};
 ghost use Rattle.deriv.specs.Derives.{DEEPEST, Chains, GoesOn};
 ghost use Rattle.lang_runs.specs.Runs.{Setting, IsRun, IsFailure, HasRun};
+ghost use Rattle.lang_runs.specs.Drawn.{Tally as DerivTally, RunTally};
 ghost use Rattle.lang_rows.specs.Rows.{IsRow, IsNext, IsWhole, is_sat_run};
+ghost use Rattle.lang_rows.specs.Drawn.{RowTally};
 ghost use Rattle.std.specs.Prelude.{Bool as Truth};
 ghost use Rattle.deriv.specs.declared.outcome.Outcome.TheVariants as outcome;
 ghost use Rattle.lang_runs.specs.declared.ran.RunStop.TheVariants as stops;
@@ -40,6 +42,7 @@ pub fn first_failed(
     first: Deriv,
 ) -> Result<Ran, RunStop>
     ensures run { (c : Setting) (ts : List Tree) (s p r : Strategy) (turns : Truth) (ps : Params) (n : ℕ) (chain : List Place) (v : View) → HasGoal ts goal → n ≤ DEEPEST → Chains s p r turns → IsFailure c v.top ts p (goal_tree ts goal) limit ps (n + 1) first → HasRun c ts s (goal_tree ts goal) limit ps n chain v result }
+    ensures draws { (old new : View) → DerivTally old new first → RunTally old new result }
 {
     let deriv = alone(alloc, goal, limit, first)?;
     Err(RunStop::Failed(deriv))
@@ -48,6 +51,7 @@ pub fn first_failed(
 /// The run of a repeat whose part gave the goal alone and unchanged.
 pub fn rests(alloc: Global, goal: Goal, limit: Option<u64>, first: Ran) -> Result<Ran, RunStop>
     ensures run { (c : Setting) (ts : List Tree) (s p : Strategy) (turns : ℕ) (ps : Params) (n : ℕ) (chain : List Place) (v : View) → HasGoal ts goal → n ≤ DEEPEST → s ≡ strategy.Repeat p turns → 0 < turns → IsRun c v.top ts p (goal_tree ts goal) limit ps (n + 1) first → goal_trees ts first.goals ≡ goal_tree ts goal ∷ [] → HasRun c ts s (goal_tree ts goal) limit ps n chain v result }
+    ensures draws { (old new : View) → DerivTally old new first.deriv → RunTally old new result }
 {
     let Ran {
         goals,
@@ -75,6 +79,7 @@ pub fn rests(alloc: Global, goal: Goal, limit: Option<u64>, first: Ran) -> Resul
 /// than 2,048 splits.
 pub fn finish(alloc: Global, goal: Goal, limit: Option<u64>, row: Row) -> Result<Ran, RunStop>
     ensures run { (c : Setting) (ts : List Tree) (s p r : Strategy) (turns : Truth) (ps : Params) (n : ℕ) (chain : List Place) (v : View) → HasGoal ts goal → n ≤ DEEPEST → Chains s p r turns → GoesOn turns (goal_tree ts goal) (goal_trees ts row.first.goals) → IsRow c v.top ts p r (goal_tree ts goal) limit ps (n + 1) row → IsWhole row → HasRun c ts s (goal_tree ts goal) limit ps n chain v result }
+    ensures draws { (old new : View) → RowTally old new row → RunTally old new result }
 {
     rows_are_honest();
     let Row {
@@ -127,6 +132,7 @@ pub fn finish_sat(
     last: Ran,
 ) -> Result<Ran, RunStop>
     ensures run { (c : Setting) (ts : List Tree) (s p r : Strategy) (turns : Truth) (ps : Params) (n : ℕ) (chain : List Place) (v : View) (next : Goal) → HasGoal ts goal → n ≤ DEEPEST → Chains s p r turns → GoesOn turns (goal_tree ts goal) (goal_trees ts row.first.goals) → IsRow c v.top ts p r (goal_tree ts goal) limit ps (n + 1) row → IsNext row next → IsRun c v.top ts r (goal_tree ts next) row.left ps (n + 1) last → is_sat_run ts last ≡ true → HasRun c ts s (goal_tree ts goal) limit ps n chain v result }
+    ensures draws { (before old new : View) → RowTally before old row → DerivTally old new last.deriv → RunTally before new result }
 {
     rows_are_honest();
     let Row {
@@ -188,6 +194,7 @@ pub fn finish_failed(
     last: Deriv,
 ) -> Result<Ran, RunStop>
     ensures run { (c : Setting) (ts : List Tree) (s p r : Strategy) (turns : Truth) (ps : Params) (n : ℕ) (chain : List Place) (v : View) (next : Goal) → HasGoal ts goal → n ≤ DEEPEST → Chains s p r turns → GoesOn turns (goal_tree ts goal) (goal_trees ts row.first.goals) → IsRow c v.top ts p r (goal_tree ts goal) limit ps (n + 1) row → IsNext row next → IsFailure c v.top ts r (goal_tree ts next) row.left ps (n + 1) last → HasRun c ts s (goal_tree ts goal) limit ps n chain v result }
+    ensures draws { (before old new : View) → RowTally before old row → DerivTally old new last → RunTally before new result }
 {
     let Row {
         first,

@@ -4,11 +4,14 @@ ghost use Rattle.qterm.specs.Tree.{Tree};
 ghost use Rattle.qgoal.specs.declared.goal.Goal.{Goal};
 ghost use Rattle.qgoal.specs.Goal.{GoalTree, HasGoal, goal_tree};
 ghost use Rattle.strat_text.specs.declared.strategy.Strategy.{Strategy};
+ghost use Rattle.race_word.specs.declared.view.View.{View};
 ghost use Rattle.deriv.specs.declared.params.Params.{Params};
 ghost use Rattle.reducer_iface.specs.Depths.{IsShallow};
 ghost use Rattle.lang_runs.specs.declared.ran.RunStop.TheVariants as stops;
 ghost use Rattle.lang_runs.specs.Runs.{Setting, IsRun};
+ghost use Rattle.lang_runs.specs.Drawn.{Tally as DerivTally};
 ghost use Rattle.lang_rows.specs.Rows.{IsRow, IsNext, IsWhole, HasGrown, is_sat_run};
+ghost use Rattle.lang_rows.specs.Drawn.{RowTally};
 
 use crate::joined::{Joined, Reached};
 use deriv::Deriv;
@@ -44,6 +47,7 @@ impl Row {
     pub fn new(alloc: Global, first: Ran, limit: Option<u64>) -> Row
         ensures row { (c : Setting) (top : ℕ) (ts : List Tree) (p r : Strategy) (g : GoalTree) (ps : Params) (n : ℕ) → IsRun c top ts p g limit ps n first → IsRow c top ts p r g limit ps n result }
         ensures first { result.first ≡ first }
+        ensures draws { (old new : View) → DerivTally old new first.deriv → RowTally old new result }
     {
         let left = remains(limit, first.deriv.spent);
         let spent = first.deriv.spent;
@@ -68,6 +72,7 @@ impl Row {
     pub fn with(self, ran: Ran) -> Result<Row, RunStop>
         ensures row { (c : Setting) (top : ℕ) (ts : List Tree) (p r : Strategy) (g : GoalTree) (l : Option ℕ) (ps : Params) (n : ℕ) (goal : Goal) → IsRow c top ts p r g l ps n self → IsNext self goal → IsRun c top ts r (goal_tree ts goal) self.left ps n ran → is_sat_run ts ran ≡ false → (more : Row) → result ≡ Ok more → IsRow c top ts p r g l ps n more }
         ensures grows { (more : Row) → result ≡ Ok more → (more.first ≡ self.first) × (length more.derivs ≡ length self.derivs + 1) }
+        ensures draws { (before old new : View) → RowTally before old self → DerivTally old new ran.deriv → (more : Row) → result ≡ Ok more → RowTally before new more }
         ensures refused { IfErr result (λ stop. stop ≡ stops.Memory) }
     {
         let more = self.pushed(ran)?;

@@ -1,7 +1,9 @@
 pub mod Kept
+pub mod Tallying
 pub mod Later
 pub mod Handing
 pub mod Surrounding
 pub mod Ending
 pub mod Reducing
 pub mod Trying
+pub mod Drawing

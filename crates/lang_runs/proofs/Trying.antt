@@ -63,7 +63,7 @@ tried_more c top ts parts p g l ps n f d t failure =
     }
 
 -- the failures of a success, or else these
-abbrev failures_or : Failures → Result Failures RunStop → Failures
+abbrev pub failures_or : Failures → Result Failures RunStop → Failures
 failures_or f (Ok g) = g
 failures_or f (Err e) = f
 

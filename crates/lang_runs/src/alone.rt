@@ -11,6 +11,7 @@ ghost use Rattle.reducer_iface.specs.Depths.{IsShallow};
 ghost use Rattle.lang_runs.specs.Runs.{Setting, HasRun};
 ghost use Rattle.lang_runs.specs.Forms.{RestsAlone, IsTold};
 ghost use Rattle.lang_runs.specs.Nodes.{IsAlone, alone_deriv, told_deriv, stopped_deriv};
+ghost use Rattle.lang_runs.specs.Drawn.{RunTally};
 
 use crate::ran::{Ran, RunStop};
 use deriv::{Cause, Deriv, Node, Outcome};
@@ -36,6 +37,7 @@ pub fn rests_alone(
     value: i128,
 ) -> Result<Ran, RunStop>
     ensures run { (c : Setting) (ts : List Tree) (s : Strategy) (ps : Params) (n : ℕ) (chain : List Place) (v : View) → HasGoal ts goal.now → IsShallow (goal_tree ts goal.now) → n ≤ DEEPEST → RestsAlone c (goal_tree ts goal.now) value s → HasRun c ts s (goal_tree ts goal.now) limit ps n chain v result }
+    ensures draws { (view : View) → RunTally view view result }
 {
     let ran = alone(alloc, goal, limit, value)?;
     Ok(ran)
@@ -105,6 +107,7 @@ fn no_split(alloc: Global) -> Result<Items<u32>, AllocError>
 /// The failure by a test with this value.
 pub fn told(goal: &Goal, limit: Option<u64>, value: i128) -> Result<Ran, RunStop>
     ensures run { (c : Setting) (ts : List Tree) (s : Strategy) (ps : Params) (n : ℕ) (chain : List Place) (v : View) → HasGoal ts goal.now → n ≤ DEEPEST → IsTold c (goal_tree ts goal.now) value s → HasRun c ts s (goal_tree ts goal.now) limit ps n chain v result }
+    ensures draws { (view : View) → RunTally view view result }
 {
     let deriv = told_deriv(goal, limit, value)?;
     Err(RunStop::Failed(deriv))
@@ -126,6 +129,7 @@ fn told_deriv(goal: &Goal, limit: Option<u64>, value: i128) -> Result<Deriv, All
 /// The failure of what would stand deeper than a derivation goes.
 pub fn stopped(goal: &Goal, limit: Option<u64>) -> Result<Ran, RunStop>
     ensures run { (c : Setting) (ts : List Tree) (s : Strategy) (ps : Params) (n : ℕ) (chain : List Place) (v : View) → HasGoal ts goal.now → n ≡ DEEPEST + 1 → HasRun c ts s (goal_tree ts goal.now) limit ps n chain v result }
+    ensures draws { (view : View) → RunTally view view result }
 {
     let deriv = stopped_deriv(goal, limit)?;
     Err(RunStop::Failed(deriv))

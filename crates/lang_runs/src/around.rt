@@ -10,6 +10,7 @@ ghost use Rattle.deriv.specs.Derives.{DEEPEST};
 ghost use Rattle.lang_runs.specs.Runs.{Setting, HasRun};
 ghost use Rattle.lang_runs.specs.Forms.{Surrounds};
 ghost use Rattle.lang_runs.specs.Nodes.{IsAround, around_deriv, around_node};
+ghost use Rattle.lang_runs.specs.Drawn.{RunTally};
 
 use crate::ran::{Ran, RunStop, discard};
 use deriv::{Deriv, Node};
@@ -36,6 +37,7 @@ pub fn surround(
     ran: Result<Ran, RunStop>,
 ) -> Result<Ran, RunStop>
     ensures run { (c : Setting) (ts : List Tree) (s child : Strategy) (lower : Option ℕ) (ps below : Params) (n : ℕ) (chain : List Place) (v : View) → HasGoal ts goal → n ≤ DEEPEST → Surrounds c (goal_tree ts goal) limit ps how s child lower below → HasRun c ts child (goal_tree ts goal) lower below (n + 1) chain v ran → HasRun c ts s (goal_tree ts goal) limit ps n chain v result }
+    ensures draws { (old new : View) → RunTally old new ran → RunTally old new result }
 {
     put_around(alloc, goal, limit, how, ran)
 }

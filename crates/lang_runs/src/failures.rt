@@ -12,6 +12,7 @@ ghost use Rattle.lang_runs.specs.Runs.{Setting, IsRun, IsFailure, HasRun};
 ghost use Rattle.deriv.specs.declared.outcome.Outcome.TheVariants as outcome;
 ghost use Rattle.lang_runs.specs.Forms.{AreTried};
 ghost use Rattle.lang_runs.specs.Nodes.{IsTried, tried_deriv, IsTriedAll, IsFirstCause};
+ghost use Rattle.lang_runs.specs.Drawn.{Tally, FailuresTally, RunTally};
 
 use crate::ran::{Ran, RunStop, discard};
 use crate::sums::{add, remains};
@@ -36,6 +37,7 @@ impl Failures {
     /// No part yet.
     pub fn new(alloc: Global, limit: Option<u64>) -> Failures
         ensures tried { (c : Setting) (top : ℕ) (ts : List Tree) (g : GoalTree) (ps : Params) (n : ℕ) → AreTried c top ts [] g limit ps n result }
+        ensures draws { (view : View) → FailuresTally view view result }
     {
         Failures {
             derivs: Items::new(alloc),
@@ -47,6 +49,7 @@ impl Failures {
     /// The parts with one more behind them, which failed. Sums past 64 bits count as want of memory.
     pub fn with(self, deriv: Deriv) -> Result<Failures, RunStop>
         ensures tried { (c : Setting) (top : ℕ) (ts : List Tree) (parts : List Strategy) (part : Strategy) (g : GoalTree) (l : Option ℕ) (ps : Params) (n : ℕ) → AreTried c top ts parts g l ps n self → IsFailure c top ts part g self.left ps n deriv → (more : Failures) → result ≡ Ok more → AreTried c top ts (parts ++ part ∷ []) g l ps n more }
+        ensures draws { (before old new : View) → FailuresTally before old self → Tally old new deriv → (more : Failures) → result ≡ Ok more → FailuresTally before new more }
         ensures refused { IfErr result (λ stop. stop ≡ stops.Memory) }
     {
         let Failures {
@@ -74,6 +77,7 @@ pub fn tried(
     ran: Ran,
 ) -> Result<Ran, RunStop>
     ensures run { (c : Setting) (ts : List Tree) (s part : Strategy) (parts others : List Strategy) (ps : Params) (n : ℕ) (chain : List Place) (v : View) → HasGoal ts goal → n ≤ DEEPEST → InOrder s (parts ++ part ∷ others) → AreTried c v.top ts parts (goal_tree ts goal) limit ps (n + 1) failures → IsRun c v.top ts part (goal_tree ts goal) failures.left ps (n + 1) ran → HasRun c ts s (goal_tree ts goal) limit ps n chain v result }
+    ensures draws { (before old new : View) → FailuresTally before old failures → Tally old new ran.deriv → RunTally before new result }
 {
     after_failures(alloc, goal, limit, failures, ran)
 }
@@ -143,6 +147,7 @@ fn tried_deriv(
 /// The run all of whose parts failed: the cause is that of the first.
 pub fn tried_all(goal: Goal, limit: Option<u64>, failures: Failures) -> Result<Ran, RunStop>
     ensures run { (c : Setting) (ts : List Tree) (s : Strategy) (parts : List Strategy) (ps : Params) (n : ℕ) (chain : List Place) (v : View) → HasGoal ts goal → n ≤ DEEPEST → InOrder s parts → 1 ≤ length parts → AreTried c v.top ts parts (goal_tree ts goal) limit ps (n + 1) failures → HasRun c ts s (goal_tree ts goal) limit ps n chain v result }
+    ensures draws { (old new : View) → FailuresTally old new failures → RunTally old new result }
 {
     let deriv = tried_all_deriv(goal, limit, failures)?;
     Err(RunStop::Failed(deriv))

@@ -1,5 +1,5 @@
-//! What stays of a run as the store grows and the racer goes on. Nothing is run.
-ghost use Rattle.std.specs.Prelude.{◌≡◌, ◌≤◌, ℕ, List, Option, Result};
+//! What stays of a run as the store grows and the racer goes on, and how many tickets a whole check drew. Nothing is run.
+ghost use Rattle.std.specs.Prelude.{◌≡◌, ◌≤◌, ◌<◌, ◌+◌, min, ℕ, List, Option, Result, IfSome};
 ghost use Rattle.qterm.specs.Tree.{Tree};
 ghost use Rattle.qterm.specs.Store.{Extends};
 ghost use Rattle.qgoal.specs.declared.goal.Goal.{Goal};
@@ -17,6 +17,7 @@ ghost use Rattle.lang_runs.specs.declared.ran.Ran.{Ran};
 ghost use Rattle.lang_runs.specs.declared.ran.RunStop.{RunStop};
 ghost use Rattle.lang_runs.specs.Runs.{Setting, IsRun, IsFailure, HasRun};
 ghost use Rattle.lang_runs.specs.Forms.{AreTried};
+ghost use Rattle.lang_runs.specs.Drawn.{IsDrawn};
 
 /// A goal of the store is the same one over each that the store grows to, and so are a run's derivation, its goals and its converters;
 /// and where a racer goes on, so that its top doesn't fall and what it saw stays seen, an answer stays one.
@@ -29,4 +30,12 @@ pub fn runs_stay()
     ensures answer { (c : Setting) (ts us : List Tree) (s : Strategy) (g : GoalTree) (l : Option ℕ) (ps : Params) (n : ℕ) (chain : List Place) (v w : View) (ran : Result Ran RunStop) → Extends ts us → v.top ≤ w.top → ((race winner : ℕ) → HasSeen v race winner → HasSeen w race winner) → HasRun c ts s g l ps n chain v ran → HasRun c us s g l ps n chain w ran }
     ensures keeps { (c : Setting) (ts us : List Tree) (s : Strategy) (g : GoalTree) (l : Option ℕ) (ps : Params) (n : ℕ) (old new : Runner) (ran : Result Ran RunStop) → Extends ts us → Keeps old new → HasRun c ts s g l ps n old.chain old.view ran → HasRun c us s g l ps n new.chain new.view ran }
     ensures grows { (c : Setting) (ts us : List Tree) (s : Strategy) (g : GoalTree) (l : Option ℕ) (ps : Params) (n : ℕ) (old new : Runner) (ran : Result Ran RunStop) → Extends ts us → Grows old new → HasRun c ts s g l ps n old.chain old.view ran → HasRun c us s g l ps n new.chain new.view ran }
+{}
+
+/// Where a racer had drawn nothing before a run, and drew alone, with one worker, all tickets of a check, these are the lesser of all
+/// lemmas that the reducers of the run's derivation spent and the pool and one more.
+///
+/// They are at most the pool and one more; an end of the pool that is noted then is a ticket past the pool, which they count.
+pub fn drawn_is_the_lesser()
+    ensures { (pool drawn spent ends : ℕ) (old new : View) → IsDrawn old new spent ends → old.draws ≡ 0 → drawn ≡ new.draws → drawn ≤ pool + 1 → IfSome new.end (λ ticket. (pool ≤ ticket) × (ticket < drawn)) → drawn ≡ min spent (pool + 1) }
 {}

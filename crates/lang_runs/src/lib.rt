@@ -16,7 +16,7 @@ mod sums;
 pub use alone::{copied, rests_alone, stopped, told};
 pub use around::{Around, surround};
 pub use failures::{Failures, tried, tried_all};
-pub use laws::runs_stay;
+pub use laws::{drawn_is_the_lesser, runs_stay};
 pub use named::prim;
 pub use ran::{Ran, RunStop, discard};
 pub use sums::{add, lesser, remains};

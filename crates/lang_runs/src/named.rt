@@ -5,13 +5,16 @@ ghost use Rattle.qgoal.specs.Goal.{HasGoal, goal_tree};
 ghost use Rattle.strat_text.specs.declared.strategy.Strategy.TheVariants as strategy;
 ghost use Rattle.race_word.specs.declared.place.Place.{Place};
 ghost use Rattle.race_word.specs.declared.view.View.{View};
+ghost use Rattle.race_word.specs.Runner.{Runner};
+ghost use Rattle.race_word.specs.Keeps.{Keeps};
 ghost use Rattle.deriv.specs.Derives.{DEEPEST};
 ghost use Rattle.reducer_iface.specs.declared.env.Env.{Env};
-ghost use Rattle.reducer_iface.specs.Allowed.{IsAllowed};
+ghost use Rattle.reducer_iface.specs.Allowed.{IsAllowed, Draws};
 ghost use Rattle.deriv.specs.Above.{is_split};
 ghost use Rattle.proof_conv.specs.Leads.{for_each};
 ghost use Rattle.lang_runs.specs.Runs.{Setting, HasRun};
 ghost use Rattle.lang_runs.specs.Nodes.{IsPrim};
+ghost use Rattle.lang_runs.specs.Drawn.{RunTally};
 
 use crate::ran::{Ran, RunStop, discard};
 use deriv::{Deriv, Kind, Node, Outcome, copy_goals};
@@ -32,6 +35,7 @@ pub fn prim(
     answer: Result<Applied, Stop>,
 ) -> Result<Ran, RunStop>
     ensures run { (c : Setting) (ts : List Tree) (env : Env) (n : ℕ) (chain : List Place) (v : View) → HasGoal ts goal → n ≤ DEEPEST → env.limit ≡ limit → env.pool ≡ c.pool → c.kinds name ≡ Some kind → IsAllowed kind ts (goal_tree ts goal) env chain v answer → HasRun c ts (strategy.Prim name) (goal_tree ts goal) limit env.params n chain v result }
+    ensures draws { (old new : Runner) → Keeps old new → Draws kind old new answer → RunTally old.view new.view result }
 {
     reduced(alloc, goal, name, kind, limit, answer)
 }

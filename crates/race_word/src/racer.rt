@@ -86,7 +86,8 @@ impl Races {
     }
 
     /// The draws of all seats: on the count of races, the refused ones among them, and on that of lemmas. All workers
-    /// are back at this racer, so both are its own numbers.
+    /// are back at this racer, so both are its own numbers. The lemmas are within the pool where it noted no end of the pool; an end that
+    /// it noted is a ticket past the pool, which they count.
     pub fn close(self, racer: Racer) -> Totals
         requires table { racer.table ≡ self.table }
         requires back { racer.view.workers ≡ self.terms.workers }
@@ -94,6 +95,8 @@ impl Races {
         ensures lemmas { result.lemmas ≡ racer.view.draws }
         ensures most { result.lemmas ≤ self.terms.pool + self.terms.workers }
         ensures top { racer.view.top ≤ result.lemmas }
+        ensures within { IfNone racer.view.end (result.lemmas ≤ self.terms.pool) }
+        ensures ended { IfSome racer.view.end (λ ticket. (self.terms.pool ≤ ticket) × (ticket < result.lemmas)) }
     {
         let Races { table } = self;
         let Racer {

@@ -14,6 +14,7 @@ use Rattle.deriv.specs.declared.kind.Kind.{Kind}
 use Rattle.deriv.specs.declared.kind.Kind.TheVariants as kinds
 use Rattle.deriv.specs.Outcome.{Done, Failed, IsOutcome, goal_trees, cause_tree, HasCause}
 use Rattle.deriv.specs.declared.cause.Cause.{Cause}
+use Rattle.deriv.specs.declared.cause.Cause.TheVariants as cause
 use Rattle.deriv.specs.Above.{is_split}
 use Rattle.deriv.specs.Honest.{IsHonest}
 use Rattle.proof_conv.specs.Leads.{Leads, NestAtMost, for_each}
@@ -58,10 +59,15 @@ IsAllowed kind ts g env chain v (Err (stop.Fail c spent)) = IsFailure kind ts g 
 IsAllowed kind ts g env chain v (Err (stop.Cancelled seen spent)) = SeenOn chain v seen
 IsAllowed kind ts g env chain v (Err stop.Memory) = Unit {0}
 
--- of kind Sat: a ticket for each lemma; where an end of the pool was noted before there is at most one lemma, which it refused
+-- a ticket for each lemma; where an end of the pool was noted before there is at most one lemma, which it refused
 abbrev pub DrawsEach : Option ℕ → ℕ → View → View → Type 0
 DrawsEach None lemmas v w = w.draws ≡ v.draws + lemmas
 DrawsEach (Some ticket) lemmas v w = (lemmas ≤ 1) × (w.draws ≡ v.draws)
+
+-- of a failure by this cause: a ticket for each lemma; at the end of the pool, which is noted then, an end that was noted before may have refused the last one
+abbrev pub DrawsTill : Cause → ℕ → View → View → Type 0
+DrawsTill (cause.PoolSpent ticket lemmas) spent v w = DrawsEach v.end spent v w × (w.end ≡ Some ticket)
+DrawsTill c spent v w = w.draws ≡ v.draws + spent
 
 -- a poll for each lemma, of all places on the chain; where it was cancelled, the last one may have stopped at its first place
 abbrev pub PollsEach : ℕ → ℕ → View → View → Type 0
@@ -70,12 +76,19 @@ PollsEach places lemmas v w = w.polls ≡ v.polls + lemmas * places
 abbrev pub PollsUpTo : ℕ → ℕ → View → View → Type 0
 PollsUpTo places lemmas v w = v.polls + (lemmas - 1) * places + 1 ≤ w.polls
 
--- what the answer says of the tickets and polls: a reducer of another kind than Sat drew as many tickets as it tells
+-- the polls of an answer that wasn't cancelled: kind Sat polls for each lemma
+abbrev pub Polls : Kind → Runner → Runner → ℕ → Type 0
+Polls kinds.Sat old new lemmas = PollsEach (length old.chain) lemmas old.view new.view
+Polls kind old new lemmas = Unit {0}
+
+-- the draws and polls of an answer that was cancelled: a lemma of kind Sat draws after its poll, whatever the poll saw
+abbrev pub DrawsOn : Kind → Runner → Runner → ℕ → Type 0
+DrawsOn kinds.Sat old new lemmas = DrawsEach old.view.end lemmas old.view new.view × PollsUpTo (length old.chain) lemmas old.view new.view
+DrawsOn kind old new lemmas = new.view.draws ≡ old.view.draws + lemmas
+
+-- what the answer says of the tickets and polls: a ticket for each lemma that it tells, but for one that a noted end refused
 abbrev pub Draws : Kind → Runner → Runner → Result Applied Stop → Type 0
-Draws kinds.Sat old new (Ok a) = DrawsEach old.view.end a.lemmas old.view new.view × PollsEach (length old.chain) a.lemmas old.view new.view
-Draws kinds.Sat old new (Err (stop.Fail c spent)) = DrawsEach old.view.end spent old.view new.view × PollsEach (length old.chain) spent old.view new.view
-Draws kinds.Sat old new (Err (stop.Cancelled seen spent)) = DrawsEach old.view.end spent old.view new.view × PollsUpTo (length old.chain) spent old.view new.view
-Draws kind old new (Ok a) = new.view.draws ≡ old.view.draws + a.lemmas
-Draws kind old new (Err (stop.Fail c spent)) = new.view.draws ≡ old.view.draws + spent
-Draws kind old new (Err (stop.Cancelled seen spent)) = new.view.draws ≡ old.view.draws + spent
+Draws kind old new (Ok a) = (new.view.draws ≡ old.view.draws + a.lemmas) × Polls kind old new a.lemmas
+Draws kind old new (Err (stop.Fail c spent)) = DrawsTill c spent old.view new.view × Polls kind old new spent
+Draws kind old new (Err (stop.Cancelled seen spent)) = DrawsOn kind old new spent
 Draws kind old new (Err stop.Memory) = Unit {0}

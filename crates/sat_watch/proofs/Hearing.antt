@@ -66,7 +66,7 @@ one_before n old mid new h p s = record {
         (w.0, subst (λ m. old.view.polls + m * length old.chain + 1 ≤ new.view.polls) (sym (minus (suc n))) (up_to old.view.polls (length old.chain) (n * length old.chain) (suc n * length old.chain) new.view.polls mid.view.polls p.polls over (suc-mul n (length old.chain))))
     by (Pool e) w =
         let over = subst (λ ps. new.view.polls ≡ mid.view.polls + suc n * length ps) p.keeps.chain w.2 in
-        (w.0, w.1, more old.view.polls (length old.chain) (suc n * length old.chain) (suc (suc n) * length old.chain) new.view.polls mid.view.polls p.polls over (suc-mul (suc n) (length old.chain)))
+        (w.0, w.1, more old.view.polls (length old.chain) (suc n * length old.chain) (suc (suc n) * length old.chain) new.view.polls mid.view.polls p.polls over (suc-mul (suc n) (length old.chain)), w.3)
 
 -- ---- calls of the watch
 -- the racer is the same, so many lemmas passed, and so many are counted

@@ -73,6 +73,22 @@ drawn_each a old mid new p h d = subst (λ e. DrawsEach e 1 old.view new.view) p
     by None is h = let x : new.view.draws ≡ mid.view.draws + 1 = ap (λ r. r.view.draws) (d is).1 in let y = p.draws in omega arith
     by (Some u) is h = (omega arith, ap (λ r. r.view.draws) h.0 ∙ p.draws)
 
+-- the end that a draw answers is noted
+abbrev ticket_of : Result ℕ PoolEnd → ℕ
+ticket_of (Ok t) = t
+ticket_of (Err e) = e.ticket
+
+end_noted : (e : PoolEnd) (old new : Runner) → Answered old (Err e) new → (old.view.end ≡ None → Draws old (Err e) new) → new.view.end ≡ Some e.ticket
+end_noted e old new h d = by old.view.end refl h
+  where
+    past_pool : (b : Bool) (t : ℕ) → ◌≡◌ {A = Result ℕ PoolEnd} (Err e) (cond b (Ok t) (past t)) → cond b old.view.end (Some t) ≡ Some e.ticket
+    past_pool true t is = absurd (cc)
+    past_pool false t is = ap Some (sym (ap ticket_of is))
+
+    by : (x : Option ℕ) → old.view.end ≡ x → IfSome x (λ u. (new ≡ old) × (Err e ≡ past u)) → new.view.end ≡ Some e.ticket
+    by None is h = ap (λ r. r.view.end) (d is).1 ∙ past_pool (ltb (d is).0 old.view.pool) (d is).0 (d is).2
+    by (Some u) is h = ap (λ r. r.view.end) h.0 ∙ is ∙ ap Some (sym (ap ticket_of h.1))
+
 pub cancels : (a : Result ℕ PoolEnd) (old mid new : Runner) (s : Seen) → mid ≡ with_view old (record (old.view) { seen = mid.view.seen; polls = mid.view.polls }) → old.view.polls < mid.view.polls → SeenOn old.chain mid.view s → Keeps old mid → Keeps mid new
     → Answered mid a new → (mid.view.end ≡ None → Draws mid a new) → HasHalted 1 old new (Cancelled s)
 cancels a old mid new s rest polls sees k l answered drawn =
@@ -93,5 +109,5 @@ ends e old mid new rest polls k l answered drawn beyond =
     record {
       keeps = keeps_then k l;
       draws = drawn_each (Err e) old mid new p answered drawn;
-      why = (beyond.0, beyond.1, omega arith);
+      why = (beyond.0, beyond.1, omega arith, end_noted e mid new answered drawn);
     }

@@ -1,5 +1,5 @@
 -- What the polls and draws for lemmas leave of a racer.
-use Rattle.std.specs.Prelude.{◌≡◌, ◌<◌, ◌≤◌, ◌+◌, ◌*◌, ℕ, length, None}
+use Rattle.std.specs.Prelude.{◌≡◌, ◌<◌, ◌≤◌, ◌+◌, ◌*◌, ℕ, length, Some, None}
 use Rattle.race_word.specs.Runner.{Runner}
 use Rattle.race_word.specs.Keeps.{Keeps, SeenOn}
 use Rattle.reducer_iface.specs.Allowed.{DrawsEach, PollsEach, PollsUpTo}
@@ -14,10 +14,10 @@ pub record HasPassed (n : ℕ) (old new : Runner) : Type 0 where
   pub draws : new.view.draws ≡ old.view.draws + n
   pub polls : new.view.polls ≡ old.view.polls + n * length old.chain
 
--- a winner was seen at the last of so many lemmas, or its ticket is past the pool
+-- a winner was seen at the last of so many lemmas, or its ticket is past the pool and noted as its end
 abbrev pub StopsBy : ℕ → Runner → Runner → Halt → Type 0
 StopsBy n old new (Cancelled s) = SeenOn new.chain new.view s × PollsUpTo (length old.chain) n old.view new.view
-StopsBy n old new (Pool e) = (new.view.pool ≤ e.ticket) × (e.ticket < new.view.top) × PollsEach (length old.chain) n old.view new.view
+StopsBy n old new (Pool e) = (new.view.pool ≤ e.ticket) × (e.ticket < new.view.top) × PollsEach (length old.chain) n old.view new.view × (new.view.end ≡ Some e.ticket)
 
 -- of so many lemmas, for each of which there was a poll and then a draw, the last one halted the search
 pub record HasHalted (n : ℕ) (old new : Runner) (halt : Halt) : Type 0 where

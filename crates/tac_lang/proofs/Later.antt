@@ -23,7 +23,7 @@ use Rattle.deriv.proofs.Seeing.{goal_kept, goal_has_kept}
 use Rattle.reducer_iface.specs.declared.env.Env.{Env}
 use Rattle.reducer_iface.specs.declared.applied.Applied.{Applied}
 use Rattle.reducer_iface.specs.declared.applied.Stop.{Stop}
-use Rattle.reducer_iface.specs.Allowed.{IsAllowed}
+use Rattle.reducer_iface.specs.Allowed.{IsAllowed, Draws}
 use Rattle.reducer_iface.specs.Depths.{IsShallow}
 use Rattle.lang_runs.specs.declared.around.Around.TheVariants.{Test}
 use Rattle.lang_runs.specs.declared.ran.Ran.{Ran}
@@ -86,6 +86,9 @@ chosen_runs names false p q child is x y = ap (runs names) is ∙ y
 -- what is allowed to the kind that a name has
 pub allowed_at : (o : Option Kind) (kind : Kind) (ts : List Tree) (g : GoalTree) (env : Env) (chain : List Place) (v : View) (answer : Result Applied Stop) → o ≡ Some kind → IfSome o (λ k. IsAllowed k ts g env chain v answer) → IsAllowed kind ts g env chain v answer
 allowed_at o kind ts g env chain v answer is h = subst (λ (x : Option Kind). IfSome x (λ k. IsAllowed k ts g env chain v answer)) is h
+
+pub draws_at : (o : Option Kind) (kind : Kind) (old new : Runner) (answer : Result Applied Stop) → o ≡ Some kind → IfSome o (λ k. Draws k old new answer) → Draws kind old new answer
+draws_at o kind old new answer is h = subst (λ (x : Option Kind). IfSome x (λ k. Draws k old new answer)) is h
 
 -- a list about one of its places
 pub split_here : {X : Type 0} (xs : List X) (i : ℕ) (x : X) → i < length xs → x ≡ get_or xs i x → xs ≡ take i xs ++ x ∷ drop (i + 1) xs

@@ -6,6 +6,7 @@ ghost use Rattle.strat_text.specs.declared.strategy.Strategy.TheVariants as stra
 ghost use Rattle.race_word.specs.Keeps.{Keeps};
 ghost use Rattle.reducer_iface.specs.Names.{kind_at};
 ghost use Rattle.lang_runs.specs.Runs.{HasRun};
+ghost use Rattle.lang_runs.specs.Drawn.{RunTally};
 ghost use Rattle.tac_lang.specs.Ready.{setting, IsReady};
 
 use crate::part::is_true;
@@ -34,6 +35,7 @@ pub(crate) fn run_prim<T: Table>(
     requires known { IsSome (kind_at (T.kinds table.now) name.now) }
     requires ready { IsReady races.now racer.old store.old goal.now env.now (depth + 1) }
     ensures run { HasRun (setting (T.kinds table.now) T.value_of env.now) store.new (strategy.Prim name.now) (goal_tree store.old goal.now) env.now.limit env.now.params depth racer.old.chain racer.new.view result }
+    ensures draws { RunTally racer.old.view racer.new.view result }
     ensures store { Extends store.old store.new }
     ensures racer { Keeps racer.old racer.new }
 {
@@ -69,6 +71,7 @@ pub(crate) fn run_fail_if<T: Table>(
 ) -> Result<Ran, RunStop>
     requires ready { IsReady races.now racer.old store.old goal.now env.now (depth + 1) }
     ensures run { HasRun (setting (T.kinds table.now) T.value_of env.now) store.new (strategy.FailIf expr.now) (goal_tree store.old goal.now) env.now.limit env.now.params depth racer.old.chain racer.new.view result }
+    ensures draws { RunTally racer.old.view racer.new.view result }
     ensures store { Extends store.old store.new }
     ensures racer { Keeps racer.old racer.new }
 {

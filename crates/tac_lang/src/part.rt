@@ -4,13 +4,16 @@ ghost use Rattle.qterm.specs.Tree.{Tree};
 ghost use Rattle.qgoal.specs.declared.goal.Goal.{Goal};
 ghost use Rattle.qgoal.specs.Goal.{GoalTree, HasGoal, goal_tree};
 ghost use Rattle.strat_text.specs.declared.strategy.Strategy.{Strategy};
+ghost use Rattle.race_word.specs.declared.view.View.{View};
 ghost use Rattle.deriv.specs.declared.params.Params.{Params};
 ghost use Rattle.deriv.specs.Outcome.{goal_trees};
 ghost use Rattle.deriv.specs.Derives.{is_true, GoesOn};
 ghost use Rattle.lang_runs.specs.Runs.{Setting, IsRun, IsFailure};
 ghost use Rattle.lang_runs.specs.Forms.{AreTried};
+ghost use Rattle.lang_runs.specs.Drawn.{Tally, FailuresTally};
 ghost use Rattle.lang_rows.specs.Rows.{IsRow, IsNext, is_sat_run};
 ghost use Rattle.lang_rows.specs.Beside.{AreBeside, IsNextBeside, IsPart};
+ghost use Rattle.lang_rows.specs.Drawn.{RowTally, BesideTally, PartTally};
 
 use deriv::Deriv;
 use lang_rows::{Beside, Part, Row, is_unchanged};
@@ -65,6 +68,7 @@ pub(crate) fn is_at_rest(turns: Option<u64>, store: &Store, goal: &Goal, goals: 
 /// The failed parts with one more.
 pub(crate) fn with_failure(failures: Failures, deriv: Deriv) -> Result<Failures, AllocError>
     ensures tried { IfOk result (λ more. (c : Setting) (top : ℕ) (ts : List Tree) (parts : List Strategy) (part : Strategy) (g : GoalTree) (l : Option ℕ) (ps : Params) (n : ℕ) → AreTried c top ts parts g l ps n failures → IsFailure c top ts part g failures.left ps n deriv → AreTried c top ts (parts ++ part ∷ []) g l ps n more) }
+    ensures draws { IfOk result (λ more. (before old new : View) → FailuresTally before old failures → Tally old new deriv → FailuresTally before new more) }
 {
     match failures.with(deriv) {
         Ok(more) => Ok(more),
@@ -76,6 +80,7 @@ pub(crate) fn with_failure(failures: Failures, deriv: Deriv) -> Result<Failures,
 pub(crate) fn with_run(row: Row, ran: Ran) -> Result<Row, AllocError>
     ensures row { IfOk result (λ more. (c : Setting) (top : ℕ) (ts : List Tree) (p r : Strategy) (g : GoalTree) (l : Option ℕ) (ps : Params) (n : ℕ) (goal : Goal) → IsRow c top ts p r g l ps n row → IsNext row goal → IsRun c top ts r (goal_tree ts goal) row.left ps n ran → is_sat_run ts ran ≡ false → IsRow c top ts p r g l ps n more) }
     ensures grows { IfOk result (λ more. (more.first ≡ row.first) × (length more.derivs ≡ length row.derivs + 1)) }
+    ensures draws { IfOk result (λ more. (before old new : View) → RowTally before old row → Tally old new ran.deriv → RowTally before new more) }
 {
     match row.with(ran) {
         Ok(more) => Ok(more),
@@ -87,6 +92,7 @@ pub(crate) fn with_run(row: Row, ran: Ran) -> Result<Row, AllocError>
 pub(crate) fn with_part(beside: Beside, part: Part) -> Result<Beside, AllocError>
     ensures beside { IfOk result (λ more. (c : Setting) (top : ℕ) (ts : List Tree) (p r : Strategy) (g : GoalTree) (l : Option ℕ) (ps : Params) (n : ℕ) (goal : Goal) → AreBeside c top ts p r g l ps n beside → IsNextBeside beside goal → IsPart c top ts r (goal_tree ts goal) beside.left ps n part → AreBeside c top ts p r g l ps n more) }
     ensures grows { IfOk result (λ more. (more.first ≡ beside.first) × (length more.derivs ≡ length beside.derivs + 1)) }
+    ensures draws { IfOk result (λ more. (before old new : View) → BesideTally before old beside → PartTally old new part → BesideTally before new more) }
 {
     match beside.with(part) {
         Ok(more) => Ok(more),

@@ -5,15 +5,18 @@ ghost use Rattle.qgoal.specs.Goal.{goal_tree};
 ghost use Rattle.strat_text.specs.declared.strategy.Strategy.{Strategy};
 ghost use Rattle.strat_text.specs.declared.strategy.Strategy.TheVariants as strategy;
 ghost use Rattle.strat_text.specs.Allowed.{are_settings};
+ghost use Rattle.race_word.specs.declared.view.View.{View};
 ghost use Rattle.race_word.specs.Keeps.{Keeps};
 ghost use Rattle.deriv.specs.declared.params.Params.{Params};
 ghost use Rattle.deriv.specs.Outcome.{goal_trees};
 ghost use Rattle.deriv.specs.Derives.{InOrder, Chains, GoesOn};
 ghost use Rattle.lang_runs.specs.Strategies.{runs, AllRun};
 ghost use Rattle.lang_runs.specs.Runs.{HasRun};
+ghost use Rattle.lang_runs.specs.Drawn.{RunTally};
 ghost use Rattle.lang_runs.specs.Forms.{Surrounds};
 ghost use Rattle.lang_rows.specs.Rows.{IsRow};
 ghost use Rattle.lang_rows.specs.Beside.{AreBeside};
+ghost use Rattle.lang_rows.specs.Drawn.{RowTally, BesideTally};
 ghost use Rattle.tac_lang.specs.Ready.{setting, IsReady};
 ghost use Rattle.tac_lang.specs.Chain.{rest_of};
 
@@ -58,6 +61,7 @@ pub(crate) fn run_at<T: Table>(
     requires runs { runs (T.kinds table.now) strategy.now ≡ true }
     requires ready { IsReady races.now racer.old store.old goal.now env.now depth }
     ensures run { HasRun (setting (T.kinds table.now) T.value_of env.now) store.new strategy.now (goal_tree store.old goal.now) env.now.limit env.now.params depth racer.old.chain racer.new.view result }
+    ensures draws { RunTally racer.old.view racer.new.view result }
     ensures store { Extends store.old store.new }
     ensures racer { Keeps racer.old racer.new }
 {
@@ -218,6 +222,7 @@ fn run_if<T: Table>(
     requires other { runs (T.kinds table.now) other.now ≡ true }
     requires ready { IsReady races.now racer.old store.old goal.now env.now (depth + 1) }
     ensures run { HasRun (setting (T.kinds table.now) T.value_of env.now) store.new (strategy.If expr.now part.now other.now) (goal_tree store.old goal.now) env.now.limit env.now.params depth racer.old.chain racer.new.view result }
+    ensures draws { RunTally racer.old.view racer.new.view result }
     ensures store { Extends store.old store.new }
     ensures racer { Keeps racer.old racer.new }
 {
@@ -255,6 +260,7 @@ fn run_when<T: Table>(
     requires part { runs (T.kinds table.now) part.now ≡ true }
     requires ready { IsReady races.now racer.old store.old goal.now env.now (depth + 1) }
     ensures run { HasRun (setting (T.kinds table.now) T.value_of env.now) store.new (strategy.When expr.now part.now) (goal_tree store.old goal.now) env.now.limit env.now.params depth racer.old.chain racer.new.view result }
+    ensures draws { RunTally racer.old.view racer.new.view result }
     ensures store { Extends store.old store.new }
     ensures racer { Keeps racer.old racer.new }
 {
@@ -295,6 +301,7 @@ fn run_params<T: Table>(
     requires settings { are_settings settings.now ≡ true }
     requires ready { IsReady races.now racer.old store.old goal.now env.now (depth + 1) }
     ensures run { HasRun (setting (T.kinds table.now) T.value_of env.now) store.new (strategy.Params part.now settings.now) (goal_tree store.old goal.now) env.now.limit env.now.params depth racer.old.chain racer.new.view result }
+    ensures draws { RunTally racer.old.view racer.new.view result }
     ensures store { Extends store.old store.new }
     ensures racer { Keeps racer.old racer.new }
 {
@@ -334,6 +341,7 @@ fn run_try_for<T: Table>(
     requires part { runs (T.kinds table.now) part.now ≡ true }
     requires ready { IsReady races.now racer.old store.old goal.now env.now (depth + 1) }
     ensures run { HasRun (setting (T.kinds table.now) T.value_of env.now) store.new (strategy.TryFor part.now most) (goal_tree store.old goal.now) env.now.limit env.now.params depth racer.old.chain racer.new.view result }
+    ensures draws { RunTally racer.old.view racer.new.view result }
     ensures store { Extends store.old store.new }
     ensures racer { Keeps racer.old racer.new }
 {
@@ -374,6 +382,7 @@ fn run_around<T: Table>(
     requires part { runs (T.kinds table.now) part.now ≡ true }
     requires ready { IsReady races.now racer.old store.old goal.now env.now (depth + 1) }
     ensures run { (s : Strategy) (ps : Params) → Surrounds (setting (T.kinds table.now) T.value_of env.now) (goal_tree store.old goal.now) limit ps how s part.now env.now.limit env.now.params → HasRun (setting (T.kinds table.now) T.value_of env.now) store.new s (goal_tree store.old goal.now) limit ps depth racer.old.chain racer.new.view result }
+    ensures draws { RunTally racer.old.view racer.new.view result }
     ensures store { Extends store.old store.new }
     ensures racer { Keeps racer.old racer.new }
 {
@@ -409,6 +418,7 @@ fn run_tries<T: Table>(
     requires some { 1 ≤ length parts.now }
     requires ready { IsReady races.now racer.old store.old goal.now env.now (depth + 1) }
     ensures run { (s : Strategy) → InOrder s parts.now → HasRun (setting (T.kinds table.now) T.value_of env.now) store.new s (goal_tree store.old goal.now) env.now.limit env.now.params depth racer.old.chain racer.new.view result }
+    ensures draws { RunTally racer.old.view racer.new.view result }
     ensures store { Extends store.old store.new }
     ensures racer { Keeps racer.old racer.new }
 {
@@ -457,6 +467,7 @@ fn run_parts<T: Table>(
     requires some { 1 ≤ length parts.now }
     requires ready { IsReady races.now racer.old store.old goal.now env.now depth }
     ensures run { HasRun (setting (T.kinds table.now) T.value_of env.now) store.new (rest_of parts.now turns) (goal_tree store.old goal.now) env.now.limit env.now.params depth racer.old.chain racer.new.view result }
+    ensures draws { RunTally racer.old.view racer.new.view result }
     ensures store { Extends store.old store.new }
     ensures racer { Keeps racer.old racer.new }
 {
@@ -515,6 +526,7 @@ fn run_chain<T: Table>(
     requires some { 1 ≤ length rest.now }
     requires ready { IsReady races.now racer.old store.old goal.now env.now (depth + 1) }
     ensures run { (s : Strategy) → Chains s part.now (rest_of rest.now turns) (is_some turns) → HasRun (setting (T.kinds table.now) T.value_of env.now) store.new s (goal_tree store.old goal.now) env.now.limit env.now.params depth racer.old.chain racer.new.view result }
+    ensures draws { RunTally racer.old.view racer.new.view result }
     ensures store { Extends store.old store.new }
     ensures racer { Keeps racer.old racer.new }
 {
@@ -567,6 +579,7 @@ fn run_rest<T: Table>(
     requires row { IsRow (setting (T.kinds table.now) T.value_of env.now) racer.old.view.top store.old part.now (rest_of rest.now turns) (goal_tree store.old goal) env.now.limit env.now.params (depth + 1) row }
     requires goes { GoesOn (is_some turns) (goal_tree store.old goal) (goal_trees store.old row.first.goals) }
     ensures run { (s : Strategy) → Chains s part.now (rest_of rest.now turns) (is_some turns) → HasRun (setting (T.kinds table.now) T.value_of env.now) store.new s (goal_tree store.old goal) env.now.limit env.now.params depth racer.old.chain racer.new.view result }
+    ensures draws { (before : View) → RowTally before racer.old.view row → RunTally before racer.new.view result }
     ensures store { Extends store.old store.new }
     ensures racer { Keeps racer.old racer.new }
 {
@@ -628,6 +641,7 @@ fn run_par_then<T: Table>(
     requires other { runs (T.kinds table.now) other.now ≡ true }
     requires ready { IsReady races.now racer.old store.old goal.now env.now (depth + 1) }
     ensures run { HasRun (setting (T.kinds table.now) T.value_of env.now) store.new (strategy.ParThen part.now other.now) (goal_tree store.old goal.now) env.now.limit env.now.params depth racer.old.chain racer.new.view result }
+    ensures draws { RunTally racer.old.view racer.new.view result }
     ensures store { Extends store.old store.new }
     ensures racer { Keeps racer.old racer.new }
 {
@@ -674,6 +688,7 @@ fn run_beside<T: Table>(
     requires ready { IsReady races.now racer.old store.old goal env.now (depth + 1) }
     requires beside { AreBeside (setting (T.kinds table.now) T.value_of env.now) racer.old.view.top store.old part.now other.now (goal_tree store.old goal) env.now.limit env.now.params (depth + 1) beside }
     ensures run { HasRun (setting (T.kinds table.now) T.value_of env.now) store.new (strategy.ParThen part.now other.now) (goal_tree store.old goal) env.now.limit env.now.params depth racer.old.chain racer.new.view result }
+    ensures draws { (before : View) → BesideTally before racer.old.view beside → RunTally before racer.new.view result }
     ensures store { Extends store.old store.new }
     ensures racer { Keeps racer.old racer.new }
 {

@@ -9,6 +9,7 @@ ghost use Rattle.reducer_iface.specs.Depths.{IsShallow};
 ghost use Rattle.probe_set.specs.Probe.{probe_of};
 ghost use Rattle.lang_runs.specs.Strategies.{runs};
 ghost use Rattle.lang_runs.specs.Runs.{HasRun};
+ghost use Rattle.lang_runs.specs.Drawn.{HasDrawn};
 ghost use Rattle.tac_lang.specs.Ready.{setting};
 
 use crate::run::run_at;
@@ -25,7 +26,8 @@ use strat_text::Strategy;
 /// The strategy's names are in the registry, its forms have as many parts as they must, and its settings are in range. The answer is a
 /// success, whose derivation, goals and converters are those of a derivation that the strategy has on the goal at depth 1; a derivation
 /// that failed; or a winner that a poll of the racer gave, of a place on its chain with another branch. Terms that were in the store
-/// stay, and the racer's chain, workers, branches and wins are as they were.
+/// stay, and the racer's chain, workers, branches and wins are as they were. Its draws rise by the lemmas that the reducers of the
+/// derivation spent, but for those that an end of the pool noted before refused.
 pub fn run_strategy(
     alloc: Global,
     registry: &Registry,
@@ -44,6 +46,7 @@ pub fn run_strategy(
     requires workers { env.now.workers ≤ 1 }
     requires pool { env.now.pool ≡ races.now.terms.pool }
     ensures run { HasRun (setting (⟦<Registry as Reducers>⟧.kinds registry.now) probe_of env.now) store.new strategy.now (goal_tree store.old goal.now) env.now.limit env.now.params 1 racer.old.chain racer.new.view result }
+    ensures draws { HasDrawn racer.old.view racer.new.view result }
     ensures store { Extends store.old store.new }
     ensures racer { Keeps racer.old racer.new }
 {

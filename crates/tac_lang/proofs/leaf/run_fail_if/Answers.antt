@@ -28,3 +28,9 @@ returns-else-is_true-clause-run g c =
     of_copy ts us gl e has S _ c.args.env.now.limit c.args.env.now.params c.args.depth c.args.racer.now.chain c.args.racer.now.view c.rests_alone.result gl refl
     (c.rests_alone.ensures.run S us _ c.args.env.now.params c.args.depth c.args.racer.now.chain c.args.racer.now.view (copy_has ts us gl e has gl refl) (stays_shallow ts us gl e has c.requires.ready.shallow) room
     (fail_if_rests ts us gl e has S c.args.expr.now c.in_ok-value.value _ same c.in_ok-value.ensures.value c.if-is_true.ensures))
+
+pub returns-then-is_true-clause-draws : goal.returns-then-is_true-clause-draws
+returns-then-is_true-clause-draws g c = c.told.ensures.draws c.args.racer.now.view
+
+pub returns-else-is_true-clause-draws : goal.returns-else-is_true-clause-draws
+returns-else-is_true-clause-draws g c = c.rests_alone.ensures.draws c.args.racer.now.view

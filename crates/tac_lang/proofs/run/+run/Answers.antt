@@ -171,6 +171,7 @@ run_tries-loop-part-init g t c = record {
   store_grows = Extends_refl _;
   racer_kept = keeps_refl _;
   all_tried = c.new-failures.ensures.tried _ _ _ _ _ _;
+  drawn = c.new-failures.ensures.draws c.args.racer.now.view;
 }
 
 pub run_tries-returns-in-Ok-clause-run : goal.run_tries-returns-in-Ok-clause-run
@@ -205,6 +206,7 @@ run_tries-loop-part-preserved g t c =
       racer_kept = keeps_then c.loop-part.invariant.racer_kept c.in-Err-Failed.ensures.racer;
       all_tried = subst (λ (xs : List Strategy). AreTried S v.top us xs (goal_tree ts gl) c.args.env.now.limit c.args.env.now.params (c.args.depth + 1) c.in_ok-failures-in-Err-Failed.failures) (sym (take_here ps i part c.loop-part-test.true c.part-item.is))
           (c.in_ok-failures-in-Err-Failed.ensures.tried S v.top us (take i ps) part (goal_tree ts gl) c.args.env.now.limit c.args.env.now.params (c.args.depth + 1) tried failed);
+      drawn = c.in_ok-failures-in-Err-Failed.ensures.draws c.args.racer.now.view c.loop-part.racer.view v c.loop-part.invariant.drawn (rw c.in-Err-Failed.field-0-is at c.in-Err-Failed.ensures.draws);
     }
 
 pub run_tries-returns-clause-run : goal.run_tries-returns-clause-run
@@ -276,10 +278,10 @@ run_parts-returns-then-depth-gt-DEEPEST-clause-run g t c =
     c.stopped.ensures.run (setting (g.T.Table.kinds c.args.table.now) g.T.Table.value_of c.args.env.now) c.args.store.now (rest_of c.args.parts.now c.args.turns) c.args.env.now.params c.args.depth c.args.racer.now.chain c.args.racer.now.view c.requires.ready.has deep
 
 pub run_rest-loop-next-init : goal.run_rest-loop-next-init
-run_rest-loop-next-init g t c = record { store_grows = Extends_refl _; racer_kept = keeps_refl _; same_first = refl; is_row = c.requires.row }
+run_rest-loop-next-init g t c = record { store_grows = Extends_refl _; racer_kept = keeps_refl _; same_first = refl; is_row = c.requires.row; drawn = λ before tally. tally }
 
 pub run_beside-loop-next-init : goal.run_beside-loop-next-init
-run_beside-loop-next-init g t c = record { store_grows = Extends_refl _; racer_kept = keeps_refl _; are_beside = c.requires.beside }
+run_beside-loop-next-init g t c = record { store_grows = Extends_refl _; racer_kept = keeps_refl _; are_beside = c.requires.beside; drawn = λ before tally. tally }
 
 pub run_chain-is_at_rest-requires-clause-goal : goal.run_chain-is_at_rest-requires-clause-goal
 run_chain-is_at_rest-requires-clause-goal g t c = has_goal_stays c.args.store.now c.run_at.new.store c.args.goal.now c.in-Ok.ensures.store c.requires.ready.has
@@ -363,6 +365,7 @@ run_rest-loop-next-preserved g t c =
       is_row = c.in_ok-row-in-Ok.ensures.row S v.top us c.args.part.now r (goal_tree ts gl) l ps n next
           (row_first S ts mid us e f gl has c.loop-next.racer.view.top v.top c.in-Ok.ensures.racer.top l ps n c.args.part.now r c.loop-next.row i.is_row) c.in-Some.ensures.next
           (run_next S mid us next r c.loop-next.row.left ps n v.top c.in-Ok.ran f fit.0 c.in-Ok.ensures.run) (sym (c.if-is_sat.ensures.sat us));
+      drawn = λ before tally. c.in_ok-row-in-Ok.ensures.draws before c.loop-next.racer.view v (i.drawn before tally) c.in-Ok.ensures.draws;
     }
 
 pub run_rest-loop-next-smaller : goal.run_rest-loop-next-smaller
@@ -559,6 +562,7 @@ run_beside-loop-next-preserved-in-Ok g t c =
       are_beside = c.in_ok-beside-in-Ok.ensures.beside S v.top us p r (goal_tree ts gl) l ps n next
           (beside_first S ts mid us e f gl has c.loop-next.racer.view.top v.top c.in-Ok.ensures.racer.top l ps n p r c.loop-next.beside i.are_beside) c.in-Some.ensures.next
           (run_next S mid us next r c.loop-next.beside.left ps n v.top c.in-Ok.ran f fit.0 c.in-Ok.ensures.run, sym (c.if-is_sat.ensures.sat us));
+      drawn = λ before tally. c.in_ok-beside-in-Ok.ensures.draws before c.loop-next.racer.view v (i.drawn before tally) c.in-Ok.ensures.draws;
     }
 
 pub run_beside-loop-next-smaller-in-Ok : goal.run_beside-loop-next-smaller-in-Ok
@@ -577,7 +581,65 @@ run_beside-loop-next-preserved g t c =
       are_beside = c.in_ok-beside-in-Err-Failed.ensures.beside S v.top us p r (goal_tree ts gl) l ps n next
           (beside_first S ts mid us e f gl has c.loop-next.racer.view.top v.top c.in-Err-Failed.ensures.racer.top l ps n p r c.loop-next.beside i.are_beside) c.in-Some.ensures.next
           (failure_next S mid us next r c.loop-next.beside.left ps n v.top c.in-Err-Failed.deriv f fit.0 (rw c.in-Err-Failed.field-0-is at c.in-Err-Failed.ensures.run));
+      drawn = λ before tally. c.in_ok-beside-in-Err-Failed.ensures.draws before c.loop-next.racer.view v (i.drawn before tally) (rw c.in-Err-Failed.field-0-is at c.in-Err-Failed.ensures.draws);
     }
 
 pub run_beside-loop-next-smaller : goal.run_beside-loop-next-smaller
 run_beside-loop-next-smaller g t c = leaves_less _ _ _ _ (within _ _ _ c.in-Some.ensures.next) (ap (λ (x : Ran). length x.goals) c.in_ok-beside-in-Err-Failed.ensures.grows.0) c.in_ok-beside-in-Err-Failed.ensures.grows.1
+
+pub run_around-returns-clause-draws : goal.run_around-returns-clause-draws
+run_around-returns-clause-draws g t c = c.surround.ensures.draws c.args.racer.now.view c.run_at-ran.new.racer.view c.run_at-ran.ensures.draws
+
+pub run_at-returns-then-depth-gt-DEEPEST-clause-draws : goal.run_at-returns-then-depth-gt-DEEPEST-clause-draws
+run_at-returns-then-depth-gt-DEEPEST-clause-draws g t c = c.stopped.ensures.draws c.args.racer.now.view
+
+pub run_when-returns-clause-draws : goal.run_when-returns-clause-draws
+run_when-returns-clause-draws g t c = c.rests_alone.ensures.draws c.args.racer.now.view
+
+pub run_tries-returns-in-Ok-clause-draws : goal.run_tries-returns-in-Ok-clause-draws
+run_tries-returns-in-Ok-clause-draws g t c = c.tried.ensures.draws c.args.racer.now.view c.loop-part.racer.view c.run_at.new.racer.view c.loop-part.invariant.drawn c.in-Ok.ensures.draws
+
+pub run_tries-returns-clause-draws : goal.run_tries-returns-clause-draws
+run_tries-returns-clause-draws g t c = c.tried_all.ensures.draws c.args.racer.now.view c.loop-part.racer.view c.loop-part.invariant.drawn
+
+pub run_parts-returns-then-depth-gt-DEEPEST-clause-draws : goal.run_parts-returns-then-depth-gt-DEEPEST-clause-draws
+run_parts-returns-then-depth-gt-DEEPEST-clause-draws g t c = c.stopped.ensures.draws c.args.racer.now.view
+
+pub run_parts-returns-then-turns-eq0-clause-draws : goal.run_parts-returns-then-turns-eq0-clause-draws
+run_parts-returns-then-turns-eq0-clause-draws g t c = c.rests_alone.ensures.draws c.args.racer.now.view
+
+pub run_chain-returns-then-is_at_rest-clause-draws : goal.run_chain-returns-then-is_at_rest-clause-draws
+run_chain-returns-then-is_at_rest-clause-draws g t c = c.rests.ensures.draws c.args.racer.now.view c.run_at.new.racer.view c.in-Ok.ensures.draws
+
+pub run_chain-returns-else-is_at_rest-clause-draws : goal.run_chain-returns-else-is_at_rest-clause-draws
+run_chain-returns-else-is_at_rest-clause-draws g t c = c.run_rest.ensures.draws c.args.racer.now.view (c.new-row.ensures.draws c.args.racer.now.view c.run_at.new.racer.view c.in-Ok.ensures.draws)
+
+pub run_chain-returns-in-Err-Failed-clause-draws : goal.run_chain-returns-in-Err-Failed-clause-draws
+run_chain-returns-in-Err-Failed-clause-draws g t c =
+    let one = rw c.in-Err-Failed.field-0-is at c.in-Err-Failed.ensures.draws in
+    c.first_failed.ensures.draws c.args.racer.now.view c.run_at.new.racer.view (rw c.in-Err-Failed.field-0-is one)
+
+pub run_rest-returns-then-is_sat-clause-draws : goal.run_rest-returns-then-is_sat-clause-draws
+run_rest-returns-then-is_sat-clause-draws g t c = λ before tally. c.finish_sat.ensures.draws before c.loop-next.racer.view c.run_parts.new.racer.view (c.loop-next.invariant.drawn before tally) c.in-Ok.ensures.draws
+
+pub run_rest-returns-in-Err-Failed-clause-draws : goal.run_rest-returns-in-Err-Failed-clause-draws
+run_rest-returns-in-Err-Failed-clause-draws g t c = λ before tally.
+    let one = rw c.in-Err-Failed.field-0-is at c.in-Err-Failed.ensures.draws in
+    c.finish_failed.ensures.draws before c.loop-next.racer.view c.run_parts.new.racer.view (c.loop-next.invariant.drawn before tally) (rw c.in-Err-Failed.field-0-is one)
+
+pub run_rest-returns-clause-draws : goal.run_rest-returns-clause-draws
+run_rest-returns-clause-draws g t c = λ before tally. c.finish.ensures.draws before c.loop-next.racer.view (c.loop-next.invariant.drawn before tally)
+
+pub run_par_then-returns-in-Ok-clause-draws : goal.run_par_then-returns-in-Ok-clause-draws
+run_par_then-returns-in-Ok-clause-draws g t c = c.run_beside.ensures.draws c.args.racer.now.view (c.new-beside.ensures.draws c.args.racer.now.view c.run_at.new.racer.view c.in-Ok.ensures.draws)
+
+pub run_par_then-returns-in-Err-Failed-clause-draws : goal.run_par_then-returns-in-Err-Failed-clause-draws
+run_par_then-returns-in-Err-Failed-clause-draws g t c =
+    let one = rw c.in-Err-Failed.field-0-is at c.in-Err-Failed.ensures.draws in
+    c.beside_first_failed.ensures.draws c.args.racer.now.view c.run_at.new.racer.view one
+
+pub run_beside-returns-then-is_sat-clause-draws : goal.run_beside-returns-then-is_sat-clause-draws
+run_beside-returns-then-is_sat-clause-draws g t c = λ before tally. c.finish_beside_sat.ensures.draws before c.loop-next.racer.view c.run_at.new.racer.view (c.loop-next.invariant.drawn before tally) c.in-Ok.ensures.draws
+
+pub run_beside-returns-clause-draws : goal.run_beside-returns-clause-draws
+run_beside-returns-clause-draws g t c = λ before tally. c.finish_beside.ensures.draws before c.loop-next.racer.view (c.loop-next.invariant.drawn before tally)

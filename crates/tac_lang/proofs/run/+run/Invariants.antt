@@ -2,7 +2,10 @@ use Rattle.std.proofs.Common.{◌≡◌, ◌+◌, ◌-◌, ◌*◌, take, length
 use Rattle.qterm.specs.Store.{Extends}
 use Rattle.qgoal.specs.Goal.{goal_tree}
 use Rattle.race_word.specs.Keeps.{Keeps}
+use Rattle.race_word.specs.declared.view.View.{View}
 use Rattle.lang_runs.specs.Forms.{AreTried}
+use Rattle.lang_runs.specs.Drawn.{FailuresTally}
+use Rattle.lang_rows.specs.Drawn.{RowTally, BesideTally}
 use Rattle.tac_lang.specs.Ready.{setting}
 use Rattle.lang_rows.specs.Rows.{IsRow}
 use Rattle.lang_rows.specs.Beside.{AreBeside}
@@ -35,6 +38,7 @@ invariant-run_tries-loop-part g l = record {
   store_grows : Extends l.fn.store l.store;
   racer_kept : Keeps l.fn.racer l.racer;
   all_tried : AreTried (setting (g.T.Table.kinds l.table) g.T.Table.value_of l.env) l.racer.view.top l.store (take l.part-index l.parts) (goal_tree l.fn.store l.goal) l.env.limit l.env.params (l.depth + 1) l.failures;
+  drawn : FailuresTally l.fn.racer.view l.racer.view l.failures;
 }
 
 abbrev pub decreases-run_parts : goal.decreases-run_parts
@@ -58,6 +62,7 @@ invariant-run_rest-loop-next g l = record {
   racer_kept : Keeps l.fn.racer l.racer;
   same_first : l.row.first ≡ l.fn.row.first;
   is_row : IsRow (setting (g.T.Table.kinds l.table) g.T.Table.value_of l.env) l.racer.view.top l.store l.part (rest_of l.rest l.turns) (goal_tree l.fn.store l.goal) l.env.limit l.env.params (l.depth + 1) l.row;
+  drawn : (before : View) → RowTally before l.fn.racer.view l.fn.row → RowTally before l.racer.view l.row;
 }
 
 abbrev pub decreases-run_rest-loop-next : goal.decreases-run_rest-loop-next
@@ -68,6 +73,7 @@ invariant-run_beside-loop-next g l = record {
   store_grows : Extends l.fn.store l.store;
   racer_kept : Keeps l.fn.racer l.racer;
   are_beside : AreBeside (setting (g.T.Table.kinds l.table) g.T.Table.value_of l.env) l.racer.view.top l.store l.part l.other (goal_tree l.fn.store l.goal) l.env.limit l.env.params (l.depth + 1) l.beside;
+  drawn : (before : View) → BesideTally before l.fn.racer.view l.fn.beside → BesideTally before l.racer.view l.beside;
 }
 
 abbrev pub decreases-run_beside-loop-next : goal.decreases-run_beside-loop-next

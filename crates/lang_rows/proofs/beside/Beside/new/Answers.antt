@@ -1,5 +1,6 @@
-use Rattle.std.proofs.Common.{[], refl}
+use Rattle.std.proofs.Common.{[], None, refl}
 use Rattle.lang_rows.proofs.Growing.{no_parts}
+use Rattle.lang_rows.proofs.Drawing.{first_beside_tally}
 use Rattle.lang_rows.proofs.beside.Beside.new.Goals as goal
 
 pub returns : goal.returns
@@ -17,4 +18,5 @@ returns c = record {
     cause = refl;
     most = refl;
   };
+  draws = λ old new tally. first_beside_tally old new c.args.first (record { first = c.args.first; joined = c.new.result; derivs = c.new-2.result; cause = None; most = 0; left = c.remains-left.result }) refl c.new-2.ensures tally;
 }

@@ -1,4 +1,5 @@
 use Rattle.std.proofs.Common.{[], refl, arith}
+use Rattle.lang_rows.proofs.Drawing.{first_tally}
 use Rattle.lang_rows.proofs.row.Row.new.Goals as goal
 
 pub returns : goal.returns
@@ -15,4 +16,5 @@ returns c = record {
     spent = omega arith;
   };
   first = refl;
+  draws = λ old new tally. first_tally old new c.args.first (record { first = c.args.first; joined = c.new.result; derivs = c.new-2.result; spent = c.args.first.deriv.spent; left = c.remains-left.result }) refl c.new-2.ensures tally;
 }
