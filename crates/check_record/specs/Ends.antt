@@ -17,6 +17,7 @@ use Rattle.check_answer.specs.declared.answers.Answer.{Answer}
 use Rattle.check_answer.specs.declared.answers.Answer.TheVariants as answers
 use Rattle.check_answer.specs.declared.answers.Why.TheVariants as why
 use Rattle.check_answer.specs.Answers.{Decides}
+use Rattle.check_record.specs.Records.{IsTotal}
 use Rattle.check_record.specs.declared.kept.Told.{Told}
 
 -- the answer of a run for that total drawn; it is never cancelled
@@ -25,6 +26,13 @@ HasEnded c ts s g drawn (Ok r) = IsRun c drawn ts s g None defaults 1 r
 HasEnded c ts s g drawn (Err (stops.Failed d)) = IsFailure c drawn ts s g None defaults 1 d
 HasEnded c ts s g drawn (Err (stops.Cancelled seen)) = ⊥
 HasEnded c ts s g drawn (Err stops.Memory) = Unit {0}
+
+-- so many lemmas were drawn as the run's derivation spent; nothing is said at want of memory
+abbrev pub HasTotal : ℕ → ℕ → Result Ran RunStop → Type 0
+HasTotal pool drawn (Ok r) = IsTotal pool drawn r.deriv
+HasTotal pool drawn (Err (stops.Failed d)) = IsTotal pool drawn d
+HasTotal pool drawn (Err (stops.Cancelled seen)) = Unit {0}
+HasTotal pool drawn (Err stops.Memory) = Unit {0}
 
 abbrev pub reached_of : Ran → Reached
 reached_of r = record { goals = r.goals; above = r.above; models = r.models; proofs = r.proofs }

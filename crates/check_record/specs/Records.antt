@@ -1,5 +1,5 @@
 -- What the record of a check tells: a derivation that its strategy has on the assertions, and the answer that this allows.
-use Rattle.std.specs.Prelude.{◌≡◌, ℕ, List, Option, Some, None}
+use Rattle.std.specs.Prelude.{◌≡◌, ℕ, ◌+◌, min, List, Option, Some, None}
 use Rattle.qterm.specs.Tree.{Tree}
 use Rattle.qterm.specs.Store.{trees_of}
 use Rattle.qgoal.specs.declared.precision.Precision.TheVariants.{Precise}
@@ -10,6 +10,7 @@ use Rattle.deriv.specs.declared.deriv.Deriv.{Deriv}
 use Rattle.deriv.specs.Trees.{Der}
 use Rattle.deriv.specs.Derives.{World, Derives}
 use Rattle.deriv.specs.Sees.{Sees}
+use Rattle.deriv.specs.Spent.{all_spent}
 use Rattle.reducer_iface.specs.Names.{Names, kind_at}
 use Rattle.probe_set.specs.Probe.{probe_of}
 use Rattle.lang_runs.specs.Runs.{Setting, world_at}
@@ -54,3 +55,7 @@ IsChecked names ts r = Tells (world_of names r) ts (trees_of ts r.asserts) r.str
 -- the record of a run alone
 abbrev pub IsApplied : Names → List Tree → CheckRecord → Type 0
 IsApplied names ts r = Tells (world_of names r) ts (trees_of ts r.asserts) r.strategy (allowed.IsApplied ts) (answers.NoSubgoals why.Memory) r.deriv r.answer
+
+-- So many lemmas were drawn as the reducers of the derivation spent in all, or one past the pool where they were more.
+abbrev pub IsTotal : ℕ → ℕ → Deriv → Type 0
+IsTotal pool drawn d = (ts : List Tree) (tree : Der) → Sees ts d tree → drawn ≡ min (all_spent tree) (pool + 1)

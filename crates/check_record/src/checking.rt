@@ -1,5 +1,5 @@
 //! Checks, and runs of strategies alone.
-ghost use Rattle.std.specs.Prelude.{◌≡◌, ◌≤◌, ◌+◌, ◌^◌, ◌↔◌, All, IfOk, None, true};
+ghost use Rattle.std.specs.Prelude.{◌≡◌, ◌≤◌, ◌+◌, ◌^◌, ◌↔◌, All, IfOk, IfSome, None, true};
 ghost use Rattle.qterm.specs.declared.name.Sort.TheVariants.{Bool};
 ghost use Rattle.qterm.specs.Store.{HasSort, Extends, trees_of};
 ghost use Rattle.qgoal.specs.Meaning.{IsModel};
@@ -10,7 +10,7 @@ ghost use Rattle.lang_runs.specs.Strategies.{runs};
 ghost use Rattle.check_answer.specs.declared.answers.Answer.TheVariants as answers;
 ghost use Rattle.check_answer.specs.declared.answers.Why.TheVariants as why;
 ghost use Rattle.check_answer.specs.Answers.{IfSat, IfUnsat};
-ghost use Rattle.check_record.specs.Records.{IsChecked, IsApplied};
+ghost use Rattle.check_record.specs.Records.{IsChecked, IsApplied, IsTotal};
 
 use crate::answering::{answered, handed_on};
 use crate::kept::{CheckRecord, own_copies, recorded};
@@ -26,7 +26,7 @@ use strat_text::Strategy;
 /// The strategy is run by one worker, on the precise goal of the assertions, without a limit and with the default parameters. The answer
 /// is what its derivation decides: sat where one of the goals is, with the model of the first such goal, carried back; unsat where all
 /// are, with a certificate; else unknown with the goals, or with the cause where the strategy failed. A number past 128 bits on the way
-/// back is told by its name. The Err is for the record's own copies of the assertions and the strategy; any later want of memory is the
+/// back is told by its name. The lemmas drawn are all that the derivation's reducers spent, or one past the pool where these are more. The Err is for the record's own copies of the assertions and the strategy; any later want of memory is the
 /// answer `Why::Memory`, and then alone there is no derivation.
 pub fn check(
     alloc: Global,
@@ -55,7 +55,8 @@ pub fn check(
     ensures head { IfOk result (λ r. IfUnsat (λ cert. cert.check ≡ number) r.answer) }
     ensures terms { IfOk result (λ r. IfUnsat (CertFits store.new) r.answer) }
     ensures unsat { IfOk result (λ r. IfUnsat (λ _. Unsatisfiable (trees_of store.new asserts.now)) r.answer) }
-    ensures drawn { IfOk result (λ r. r.drawn ≤ pool + workers) }
+    ensures drawn { IfOk result (λ r. IfSome r.deriv (IsTotal pool r.drawn)) }
+    ensures most { IfOk result (λ r. r.drawn ≤ pool + workers) }
     ensures store { Extends store.old store.new }
 {
     rows_are_honest();
@@ -89,7 +90,8 @@ pub fn apply_only(
     ensures pool { IfOk result (λ r. r.pool ≡ pool) }
     ensures applied { IfOk result (IsApplied (⟦<Registry as Reducers>⟧.kinds registry.now) store.new) }
     ensures memory { IfOk result (λ r. (r.deriv ≡ None) ↔ (r.answer ≡ answers.NoSubgoals why.Memory)) }
-    ensures drawn { IfOk result (λ r. r.drawn ≤ pool + workers) }
+    ensures drawn { IfOk result (λ r. IfSome r.deriv (IsTotal pool r.drawn)) }
+    ensures most { IfOk result (λ r. r.drawn ≤ pool + workers) }
     ensures store { Extends store.old store.new }
 {
     let asked = own_copies(alloc, number, asserts, strategy, workers, pool)?;

@@ -9,7 +9,7 @@ ghost use Rattle.reducer_iface.specs.Depths.{IsShallow};
 ghost use Rattle.lang_runs.specs.declared.ran.RunStop.TheVariants as stops;
 ghost use Rattle.lang_runs.specs.Strategies.{runs};
 ghost use Rattle.check_record.specs.Records.{setting_of, precise};
-ghost use Rattle.check_record.specs.Ends.{HasEnded};
+ghost use Rattle.check_record.specs.Ends.{HasEnded, HasTotal};
 
 use crate::kept::copied;
 use lang_runs::{Ran, RunStop};
@@ -43,6 +43,7 @@ pub(crate) fn run(
     requires workers { workers ≡ 1 }
     requires pool { (1 ≤ pool) × (pool ≤ 2 ^ 62) }
     ensures ended { HasEnded (setting_of (⟦<Registry as Reducers>⟧.kinds registry.now) workers pool) store.new strategy.now (precise (trees_of store.old asserts.now)) result.drawn result.ran }
+    ensures total { HasTotal pool result.drawn result.ran }
     ensures drawn { result.drawn ≤ pool + workers }
     ensures store { Extends store.old store.new }
 {
@@ -90,6 +91,7 @@ fn race(
     requires workers { workers ≡ 1 }
     requires pool { (1 ≤ pool) × (pool ≤ 2 ^ 62) }
     ensures ended { HasEnded (setting_of (⟦<Registry as Reducers>⟧.kinds registry.now) workers pool) store.new strategy.now (goal_tree store.old goal.now) result.drawn result.ran }
+    ensures total { HasTotal pool result.drawn result.ran }
     ensures drawn { result.drawn ≤ pool + workers }
     ensures store { Extends store.old store.new }
 {

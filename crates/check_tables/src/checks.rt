@@ -1,5 +1,5 @@
 //! Checks and runs alone, as a table, with what their records answer.
-ghost use Rattle.std.specs.Prelude.{◌≡◌, ◌↔◌, All, IfOk, IsTrue, true};
+ghost use Rattle.std.specs.Prelude.{◌≡◌, ◌≤◌, ◌^◌, ◌↔◌, All, IfOk, IsTrue, true};
 ghost use Rattle.qterm.specs.declared.name.Sort.TheVariants.{Bool};
 ghost use Rattle.qterm.specs.Store.{HasSort, Extends, trees_of};
 ghost use Rattle.goal_depth.specs.Depths.{AreShallow};
@@ -46,7 +46,7 @@ fn are_shallow(alloc: Global, store: &mut Store, ids: &[TermId]) -> Result<bool,
 
 /// What an answer is in short.
 #[derive(Clone, Copy, Debug, PartialEq, Eq)]
-enum Found {
+pub enum Found {
     Sat,
     Unsat,
     /// So many goals.
@@ -57,6 +57,10 @@ enum Found {
     NotClausal(u32),
     /// It failed after so many lemmas.
     Spent(usize),
+    /// It failed at the end of the pool, after so many lemmas.
+    PoolSpent(usize),
+    /// Its derivation was too deep.
+    TooDeep,
     Other,
 }
 
@@ -66,6 +70,8 @@ fn of_cause(cause: &Cause) -> Found {
         Cause::Told => Found::Told,
         Cause::NotClausal(number) => Found::NotClausal(*number),
         Cause::Spent(lemmas) => Found::Spent(lemmas.len()),
+        Cause::PoolSpent { lemmas, .. } => Found::PoolSpent(lemmas.len()),
+        Cause::TooDeep => Found::TooDeep,
         _ => Found::Other,
     }
 }
@@ -86,7 +92,7 @@ fn of_answer(answer: &Answer) -> Found {
 /// Assertions, a strategy, and what the check is to answer.
 type Row = (&'static str, &'static str, Found);
 
-const CHECKS: [Row; 16] = [
+const CHECKS: [Row; 30] = [
     ("pq|p!", "sat", Found::Sat),
     ("pq|p!q!", "sat", Found::Unsat),
     ("pp!", "(or-else fail (then skip sat))", Found::Unsat),
@@ -106,15 +112,101 @@ const CHECKS: [Row; 16] = [
         "(or-else (try-for sat 0) sat)",
         Found::Unsat,
     ),
+    ("pp!q|q!", "(try-for sat 0)", Found::Unsat),
+    ("p", "(or-else skip sat)", Found::Goals(1)),
+    ("p", "(or-else fail fail)", Found::Told),
+    ("p", "(par-or fail (then simplify sat))", Found::Sat),
+    (
+        "pq|pq!|p!q|p!q!|",
+        "(par-or (try-for sat 0) sat)",
+        Found::Unsat,
+    ),
+    ("p", "(par-or skip sat)", Found::Goals(1)),
+    ("pq|", "(par-then simplify sat)", Found::Sat),
+    ("pp!", "(par-then skip (then simplify sat))", Found::Unsat),
+    ("pq|", "(par-then skip fail)", Found::Told),
     ("pq|", "(repeat simplify 0)", Found::Goals(1)),
+    ("pq|", "(repeat skip 9)", Found::Goals(1)),
+    ("pq|", "(repeat sat 9)", Found::Sat),
+    (
+        "pq&r&",
+        "(then (repeat simplify 9) (fail-if (= size 3)))",
+        Found::Told,
+    ),
+    (
+        "p!q&",
+        "(using-params (then simplify sat) :drop_wide_max 3)",
+        Found::Sat,
+    ),
+    ("p", "(then (repeat fail 1) skip)", Found::Told),
+];
+
+/// Assertions, a strategy, a pool, what the check is to answer, and how many lemmas it is to draw.
+type DrawRow = (&'static str, &'static str, u64, Found, u64);
+
+const FOUR: &str = "pq|pq!|p!q|p!q!|";
+
+const DRAWS: [DrawRow; 6] = [
+    ("pq|", "sat", 100, Found::Sat, 0),
+    (FOUR, "(try-for sat 0)", 100, Found::Spent(1), 1),
+    (
+        FOUR,
+        "(or-else (try-for sat 0) (try-for sat 0))",
+        100,
+        Found::Spent(1),
+        2,
+    ),
+    (
+        FOUR,
+        "(or-else (try-for sat 0) (then (try-for sat 0) skip))",
+        1,
+        Found::Spent(1),
+        2,
+    ),
+    (
+        FOUR,
+        "(then (or-else (try-for sat 0) skip) (try-for sat 0) skip)",
+        1,
+        Found::PoolSpent(1),
+        2,
+    ),
+    (
+        FOUR,
+        "(then (or-else (try-for sat 0) (try-for sat 0) skip) (try-for sat 0))",
+        1,
+        Found::PoolSpent(1),
+        2,
+    ),
 ];
 
 /// The same for runs alone.
-const RUNS: [Row; 3] = [
+const RUNS: [Row; 6] = [
     ("pq|", "(if (= size 1) simplify fail)", Found::Goals(1)),
     ("pq|", "(fail-if (>= num-consts 2))", Found::Told),
     ("0x<x9<", "(repeat simplify 0)", Found::Goals(1)),
+    (
+        "pq|",
+        "(fail-if (and (= size 1) (= num-exprs 3) (= depth 2) (= num-consts 2) is-propositional))",
+        Found::Told,
+    ),
+    (
+        "0x<x9<",
+        "(if (or is-canonical is-bounded is-propositional (< max-bits 128)) skip (then simplify (fail-if (and is-canonical is-bounded (not is-01) (= max-bits 4)))))",
+        Found::Told,
+    ),
+    (
+        "0x<x1<",
+        "(then simplify (fail-if (and is-01 (= max-bits 1) (> 2 num-consts))))",
+        Found::Told,
+    ),
 ];
+
+/// How a row is run: with which pool, and whether alone.
+#[derive(Clone, Copy)]
+pub struct How {
+    pub pool: u64,
+    pub alone: bool,
+}
 
 /// The record of a check, or of a run alone, with the number 7.
 fn record_of(
@@ -123,16 +215,17 @@ fn record_of(
     store: &mut Store,
     ids: &[TermId],
     strategy: &Strategy,
-    alone: bool,
+    how: How,
 ) -> Result<CheckRecord, AllocError>
     requires formulas { All (HasSort Bool store.old) ids.now }
     requires shallow { AreShallow (trees_of store.old ids.now) }
     requires runs { runs (⟦<Registry as Reducers>⟧.kinds registry.now) strategy.now ≡ true }
+    requires pool { (1 ≤ how.pool) × (how.pool ≤ 2 ^ 62) }
 {
-    if alone {
-        apply_only(alloc, registry, store, 7, ids, strategy, 1, 100)
+    if how.alone {
+        apply_only(alloc, registry, store, 7, ids, strategy, 1, how.pool)
     } else {
-        check(alloc, registry, store, 7, ids, strategy, 1, 100)
+        check(alloc, registry, store, 7, ids, strategy, 1, how.pool)
     }
 }
 
@@ -154,18 +247,19 @@ fn is_accepted(
     }
 }
 
-/// What a record answers in short, where its certificate, if it has one, is accepted.
+/// What a record answers in short, where its certificate, if it has one, is accepted, and how many lemmas it drew.
 fn in_short(
     alloc: Global,
     store: &mut Store,
     ids: &[TermId],
     record: &CheckRecord,
-) -> Result<Found, AllocError> {
-    if is_accepted(alloc, store, ids, record)? {
-        Ok(of_answer(&record.answer))
+) -> Result<(Found, u64), AllocError> {
+    let found = if is_accepted(alloc, store, ids, record)? {
+        of_answer(&record.answer)
     } else {
-        Ok(Found::Other)
-    }
+        Found::Other
+    };
+    Ok((found, record.drawn))
 }
 
 /// What a check of these assertions answers, or a run alone.
@@ -175,51 +269,47 @@ fn found_by(
     store: &mut Store,
     ids: &[TermId],
     strategy: &Strategy,
-    alone: bool,
-) -> Result<Found, AllocError>
+    how: How,
+) -> Result<(Found, u64), AllocError>
     requires formulas { All (HasSort Bool store.old) ids.now }
     requires shallow { AreShallow (trees_of store.old ids.now) }
     requires runs { runs (⟦<Registry as Reducers>⟧.kinds registry.now) strategy.now ≡ true }
+    requires pool { (1 ≤ how.pool) × (how.pool ≤ 2 ^ 62) }
 {
-    let record = record_of(alloc, registry, store, ids, strategy, alone)?;
+    let record = record_of(alloc, registry, store, ids, strategy, how)?;
     in_short(alloc, store, ids, &record)
 }
 
-/// The same, where the assertions are formulas that are at most 100 deep, and the strategy may run.
+/// The same, where the assertions are formulas that are at most 100 deep, the strategy may run, and the pool is within its limits.
 fn found_in(
     alloc: Global,
     registry: &Registry,
     store: &mut Store,
     ids: &[TermId],
     strategy: &Strategy,
-    alone: bool,
-) -> Result<Found, AllocError> {
-    if are_formulas(store, ids) && can_run(registry, strategy) {
+    how: How,
+) -> Result<(Found, u64), AllocError> {
+    let is_pool = 1 <= how.pool && how.pool <= 1 << 62;
+    if is_pool && are_formulas(store, ids) && can_run(registry, strategy) {
         if are_shallow(alloc, store, ids)? {
-            return found_by(alloc, registry, store, ids, strategy, alone);
+            return found_by(alloc, registry, store, ids, strategy, how);
         }
     }
     Err(AllocError)
 }
 
-/// What a row answers.
-fn found_of(
+/// What the assertions and the strategy of these texts answer, and how many lemmas were drawn.
+pub fn found_of(
     alloc: Global,
     registry: &Registry,
-    row: Row,
-    alone: bool,
-) -> Result<Found, AllocError> {
+    assertions: &str,
+    tactic: &str,
+    how: How,
+) -> Result<(Found, u64), AllocError> {
     let mut store = Store::new(alloc);
-    let ids = asserts(alloc, &mut store, row.0)?;
-    let strategy = strategy(alloc, row.1)?;
-    found_in(
-        alloc,
-        registry,
-        &mut store,
-        ids.as_slice(),
-        &strategy,
-        alone,
-    )
+    let ids = asserts(alloc, &mut store, assertions)?;
+    let strategy = strategy(alloc, tactic)?;
+    found_in(alloc, registry, &mut store, ids.as_slice(), &strategy, how)
 }
 
 /// Whether a reducer was inserted.
@@ -227,24 +317,8 @@ fn is_in(inserted: Result<(), RegistryError>) -> bool {
     inserted.is_ok()
 }
 
-/// Asserts that each row answers what it is to answer.
-fn run(
-    rt: &impl Abort,
-    alloc: Global,
-    registry: &Registry,
-    rows: &[Row],
-    alone: bool,
-) -> Result<(), AllocError> {
-    for row in rows {
-        let found = found_of(alloc, registry, *row, alone)?;
-        assert_eq!(rt; found, row.2, "{} {}", row.0, row.1);
-    }
-    Ok(())
-}
-
-#[test]
-fn records_tell_what_strategies_decide(rt: HostRuntime) -> Result<(), Fail> {
-    let alloc = rt.alloc();
+/// The registry of the reducers that are built.
+pub fn built(alloc: Global) -> Result<Registry, AllocError> {
     let mut registry = Registry::new(alloc);
     let skip = registry.insert(ReducerName::new(alloc, b"skip")?, Box::new(alloc, Skip)?);
     let fail = registry.insert(
@@ -256,8 +330,46 @@ fn records_tell_what_strategies_decide(rt: HostRuntime) -> Result<(), Fail> {
         Box::new(alloc, Simplify)?,
     );
     let sat = registry.insert(ReducerName::new(alloc, b"sat")?, Box::new(alloc, Sat)?);
-    assert!(rt; is_in(skip) && is_in(fail) && is_in(simplify) && is_in(sat));
+    if is_in(skip) && is_in(fail) && is_in(simplify) && is_in(sat) {
+        Ok(registry)
+    } else {
+        Err(AllocError)
+    }
+}
+
+/// Asserts that each row answers what it is to answer.
+fn run(
+    rt: &impl Abort,
+    alloc: Global,
+    registry: &Registry,
+    rows: &[Row],
+    alone: bool,
+) -> Result<(), AllocError> {
+    for row in rows {
+        let how = How { pool: 100, alone };
+        let found = found_of(alloc, registry, row.0, row.1, how)?;
+        assert_eq!(rt; found.0, row.2, "{} {}", row.0, row.1);
+    }
+    Ok(())
+}
+
+#[test]
+fn records_tell_what_strategies_decide(rt: HostRuntime) -> Result<(), Fail> {
+    let alloc = rt.alloc();
+    let registry = built(alloc)?;
     run(&rt, alloc, &registry, &CHECKS, false)?;
     run(&rt, alloc, &registry, &RUNS, true)?;
+    Ok(())
+}
+
+#[test]
+fn records_tell_how_many_lemmas_were_drawn(rt: HostRuntime) -> Result<(), Fail> {
+    let alloc = rt.alloc();
+    let registry = built(alloc)?;
+    for (assertions, tactic, pool, wanted, drawn) in DRAWS {
+        let how = How { pool, alone: false };
+        let found = found_of(alloc, &registry, assertions, tactic, how)?;
+        assert_eq!(rt; found, (wanted, drawn), "{assertions} {tactic}");
+    }
     Ok(())
 }
