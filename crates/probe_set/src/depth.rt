@@ -9,7 +9,7 @@ use qwalk::{Scan, scan_all};
 use std::alloc::{AllocError, Global};
 
 /// The greatest depth of formulas, a leaf having 1; 0 where there is no formula.
-pub(crate) fn deepest(
+pub fn deepest(
     alloc: Global,
     store: &Store,
     formulas: &[TermId],

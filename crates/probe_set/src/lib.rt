@@ -10,4 +10,5 @@ mod names;
 mod ranges;
 mod value;
 
+pub use depth::deepest;
 pub use value::probe;

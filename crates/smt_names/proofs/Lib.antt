@@ -1,0 +1,11 @@
+pub mod Texts
+pub mod Tables
+pub mod Lookups
+pub mod Names
+pub mod Forms
+pub mod Applying
+pub mod Readings
+pub mod Annotations
+pub mod Bindings
+pub mod Pushing
+pub mod Laws
