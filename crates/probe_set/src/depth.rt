@@ -9,11 +9,7 @@ use qwalk::{Scan, scan_all};
 use std::alloc::{AllocError, Global};
 
 /// The greatest depth of formulas, a leaf having 1; 0 where there is no formula.
-pub fn deepest(
-    alloc: Global,
-    store: &Store,
-    formulas: &[TermId],
-) -> Result<usize, AllocError>
+pub fn deepest(alloc: Global, store: &Store, formulas: &[TermId]) -> Result<usize, AllocError>
     requires has { All (Has store.now) formulas.now }
     ensures { IfOk result (λ n. n ≡ deepest (trees_of store.now formulas.now)) }
 {
