@@ -3,13 +3,14 @@ ghost use Rattle.std.specs.Prelude.{◌↔◌, IsTrue, All};
 ghost use Rattle.answer_text.specs.Values.{IsWithin};
 
 use answer_text::{
-    ERROR_BEHAVIOR, FAILED_MEMOUT, Fault, INCOMPLETE, MEMOUT, NAME, SAT, SUCCESS, UNKNOWN, UNSAT,
+    ERROR_BEHAVIOR, FAILED_MEMOUT, INCOMPLETE, MEMOUT, NAME, SAT, SUCCESS, UNKNOWN, UNSAT,
     UNSUPPORTED, VERSION, ValueRow, write_cause, write_error, write_failed, write_failed_reason,
     write_model, write_values, write_wide_reason,
 };
 use deriv::Cause;
 use qeval::{Model, Value};
 use qterm::{Name, Sort, Store, Term, TermId, TermIds};
+use smt_words::What;
 use std::alloc::{AllocError, Global};
 use std::test::Fail;
 use table_terms::{list, named, put};
@@ -191,153 +192,139 @@ const WIDE: &[u8] =
 const OPEN: &[u8] = b"(declare-const x Int)\n(check-sat)\n(assert (<= x";
 
 /// Faults at places of scripts, with their lines.
-const FAULTS: [(&[u8], usize, Fault, &[u8]); 21] = [
+const FAULTS: [(&[u8], usize, What, &[u8]); 21] = [
     (
         WIDE,
         35,
-        Fault::WideNumeral,
+        What::WideNumeral,
         b"(error \"line 2 column 14: number past 128 bits\")\n",
     ),
     (
         OPEN,
         34,
-        Fault::Unclosed,
+        What::Unclosed,
         b"(error \"line 3 column 1: unclosed parenthesis\")\n",
     ),
     (
         b"(get-model)",
         0,
-        Fault::NoAnswer,
+        What::NoAnswer,
         b"(error \"line 1 column 1: no answer to show\")\n",
     ),
     (
         b"ab",
         2,
-        Fault::Lexical,
+        What::Lexical,
         b"(error \"line 1 column 3: bad token\")\n",
     ),
     (
         b"\n\n",
         2,
-        Fault::TooDeep,
+        What::TooDeep,
         b"(error \"line 3 column 1: nesting past 1000\")\n",
     ),
     (
         b"a\r\t\xC3\xA9 b",
         6,
-        Fault::UnknownCommand,
+        What::UnknownCommand,
         b"(error \"line 1 column 7: unknown command\")\n",
     ),
     (
         b"\n012345678",
         9,
-        Fault::BadShape,
+        What::BadShape,
         b"(error \"line 2 column 9: wrong arguments\")\n",
     ),
     (
         b"\n0123456789",
         10,
-        Fault::UnknownSymbol,
+        What::UnknownSymbol,
         b"(error \"line 2 column 10: unknown symbol\")\n",
     ),
     (
         b"a\n",
         1,
-        Fault::Redeclared,
+        What::Redeclared,
         b"(error \"line 1 column 2: name already declared\")\n",
     ),
     (
         b"",
         0,
-        Fault::BadSort,
+        What::BadSort,
         b"(error \"line 1 column 1: wrong sort\")\n",
     ),
     (
         b"",
         0,
-        Fault::NotLinear,
+        What::NotLinear,
         b"(error \"line 1 column 1: product is not linear\")\n",
     ),
     (
         b"",
         0,
-        Fault::TooManyTerms,
+        What::TooManyTerms,
         b"(error \"line 1 column 1: more than 1048576 terms\")\n",
     ),
     (
         b"",
         0,
-        Fault::BadLogic,
+        What::BadLogic,
         b"(error \"line 1 column 1: logic not supported\")\n",
     ),
     (
         b"",
         0,
-        Fault::PushTooMany,
+        What::PushTooMany,
         b"(error \"line 1 column 1: push past 65536 levels\")\n",
     ),
     (
         b"",
         0,
-        Fault::PopTooMany,
+        What::PopTooMany,
         b"(error \"line 1 column 1: pop below the first level\")\n",
     ),
     (
         b"",
         0,
-        Fault::UnknownReducer,
+        What::UnknownReducer,
         b"(error \"line 1 column 1: unknown reducer\")\n",
     ),
     (
         b"",
         0,
-        Fault::UnknownProbe,
+        What::UnknownProbe,
         b"(error \"line 1 column 1: unknown probe\")\n",
     ),
     (
         b"",
         0,
-        Fault::UnknownParam,
+        What::UnknownParam,
         b"(error \"line 1 column 1: unknown parameter\")\n",
     ),
     (
         b"",
         0,
-        Fault::BadStrategy,
+        What::BadStrategy,
         b"(error \"line 1 column 1: bad strategy\")\n",
     ),
     (
         b"",
         0,
-        Fault::WideValue,
+        What::WideValue,
         b"(error \"line 1 column 1: value past 128 bits\")\n",
     ),
     (
         b"",
         0,
-        Fault::TooLong,
+        What::TooLong,
         b"(error \"line 1 column 1: script too long\")\n",
     ),
 ];
 
-/// The line of a fault at a place of a script.
-fn fault_line(
-    alloc: Global,
-    script: &[u8],
-    place: usize,
-    fault: Fault,
-) -> Result<Vec<u8>, AllocError> {
-    if place <= script.len() {
-        write_error(alloc, script, fault, place)
-    } else {
-        Err(AllocError)
-    }
-}
-
 #[test]
 fn faults_of_scripts(rt: HostRuntime) -> Result<(), Fail> {
     for (script, place, fault, want) in FAULTS {
-        assert!(rt; fault_line(rt.alloc(), script, place, fault)?.as_slice() == want);
+        assert!(rt; write_error(rt.alloc(), script, fault, place)?.as_slice() == want);
     }
     Ok(())
 }

@@ -1,4 +1,4 @@
-//! Tables of checks, and of runs of strategies alone: what their records answer. There is no other code here.
+//! Tables of checks, and of runs of strategies alone: what their records answer; and worked derivations. There is no other code here.
 #![tactic(auto)]
 
 #[cfg(test)]
@@ -7,3 +7,6 @@ mod checks;
 mod deep;
 #[cfg(test)]
 mod texts;
+mod worked;
+
+pub use worked::worked_derivations;

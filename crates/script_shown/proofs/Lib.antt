@@ -1,0 +1,2 @@
+pub mod CertStays
+pub mod AnswersStay

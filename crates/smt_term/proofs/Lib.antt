@@ -1,0 +1,4 @@
+pub mod Waiting
+pub mod Answered
+pub mod Stepping
+pub mod Begun

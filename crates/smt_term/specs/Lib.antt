@@ -1,0 +1,5 @@
+pub mod Term
+pub mod Frames
+pub mod Turns
+pub mod Pairs
+pub mod Steps
