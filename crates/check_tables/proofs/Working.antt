@@ -1,28 +1,26 @@
 -- Each worked derivation, by the constructors of the definition.
-use Rattle.std.proofs.Common.{◌≡◌, ◌≤◌, ℕ, ◌+◌, List, [], ◌∷◌, Option, Some, None, refl, arith}
+use Rattle.std.proofs.Common.{◌≤◌, ℕ, [], ◌∷◌, Option, Some, None, refl, arith}
 use Rattle.std.specs.Prelude.{codes}
 use Rattle.qgoal.specs.Goal.{GoalTree}
-use Rattle.strat_text.specs.declared.strategy.Strategy.{Strategy}
 use Rattle.strat_text.specs.declared.strategy.Strategy.TheVariants as strategy
-use Rattle.deriv.specs.declared.kind.Kind.{Kind}
 use Rattle.deriv.specs.declared.kind.Kind.TheVariants as kind
 use Rattle.deriv.specs.Params.{defaults}
 use Rattle.deriv.specs.Outcome.{Done, Failed, Told, TooDeep}
 use Rattle.deriv.specs.Trees as kept
 use Rattle.deriv.specs.Trees.{Der, none, more, no_pairs, pair}
-use Rattle.deriv.specs.Derives.{World, Derives, stopped, prim, seq_all, seq_sat, seq_failed, repeat_rests, tried, tried_all, race, par_all, try_for, by_then, by_or_else, by_par_or, each_none, each_more, fail_none, fail_more, beside_none, beside_more, DEEPEST}
+use Rattle.deriv.specs.Derives.{World, Derives, stopped, prim, seq_all, seq_sat, seq_failed, repeat_rests, tried, tried_all, race, par_all, try_for, by_then, by_or_else, each_none, each_more, fail_none, fail_more, beside_none, beside_more, DEEPEST}
 use Rattle.tac_basic.proofs.Alone.{one_outcome}
-use Rattle.check_tables.specs.Worked.{skip, fail, HasBoth, check_by, one, empty, skipped, failed, Has, gives, fails}
+use Rattle.check_tables.specs.Worked.{skip, fail, check_by, one, empty, skipped, failed, Has, gives, fails}
 
-module _ (kinds : List ℕ → Option Kind) (both : HasBoth kinds) (workers : ℕ) where
+module _ (workers : ℕ) where
   abbrev K : World
-  K = check_by workers kinds
+  K = check_by workers
 
   skips : (g : GoalTree) (l : Option ℕ) (n : ℕ) → n ≤ DEEPEST → Derives K (skipped g l) skip g l defaults n
-  skips g l n deep = prim (codes "skip") kind.Skip (Done (g ∷ [])) ([] ∷ []) 0 deep refl both.skips (one_outcome g) (record { goals = refl; steps = refl; lemmas = refl })
+  skips g l n deep = prim (codes "skip") kind.Skip (Done (g ∷ [])) ([] ∷ []) 0 deep refl refl (one_outcome g) (record { goals = refl; steps = refl; lemmas = refl })
 
   fails_at : (g : GoalTree) (l : Option ℕ) (n : ℕ) → n ≤ DEEPEST → Derives K (failed g l) fail g l defaults n
-  fails_at g l n deep = prim (codes "fail") kind.Fail (Failed Told) [] 0 deep refl both.fails tt (record { cause = refl; steps = refl; lemmas = refl })
+  fails_at g l n deep = prim (codes "fail") kind.Fail (Failed Told) [] 0 deep refl refl tt (record { cause = refl; steps = refl; lemmas = refl })
 
   pub or_else : Has K (strategy.OrElse (fail ∷ skip ∷ [])) one (gives one (kept.Tried (more (failed one None) none) (skipped one None)))
   or_else = tried (fail ∷ []) [] skip (more (failed one None) none) (skipped one None) None (one ∷ []) (omega arith) (by_or_else (fail ∷ skip ∷ []) refl) (fail_more Told (fails_at one None 2 (omega arith)) refl fail_none) (skips one None 2 (omega arith)) refl
@@ -51,9 +49,6 @@ module _ (kinds : List ℕ → Option Kind) (both : HasBoth kinds) (workers : �
   pub too_deep : Derives K (kept.der one None 0 (Failed TooDeep) kept.Stopped) skip one None defaults 2049
   too_deep = stopped refl
 
--- one of two workers may run the second part first, and one worker alone can't
-pub raced : (kinds : List ℕ → Option Kind) → HasBoth kinds → Has (check_by 2 kinds) (strategy.ParOr (fail ∷ skip ∷ [])) one (gives one (kept.Race 1 (skipped one None)))
-raced kinds both = race (fail ∷ skip ∷ []) skip 1 (skipped one None) (one ∷ []) (omega arith) (omega arith) refl refl (skips kinds both 2 one None 2 (omega arith)) refl
-
-pub no_race : (kinds : List ℕ → Option Kind) (s : Strategy) (winner : ℕ) (child : Der) → Has (check_by 1 kinds) s one (gives one (kept.Race winner child)) → ⊥
-no_race kinds s winner child (race parts p winner child hs deep several is at had out) = absurd (omega (arith, several))
+-- one of two workers may come to the end of the second part first
+pub raced : Has (check_by 2) (strategy.ParOr (fail ∷ skip ∷ [])) one (gives one (kept.Race 1 (skipped one None)))
+raced = race (fail ∷ skip ∷ []) skip 1 (skipped one None) (one ∷ []) (omega arith) (omega arith) refl refl (skips 2 one None 2 (omega arith)) refl

@@ -1,5 +1,6 @@
 -- Worked derivations: what the reducers skip and fail come to under forms of strategies, spelled out.
-use Rattle.std.specs.Prelude.{◌≡◌, ℕ, List, [], ◌∷◌, codes, Option, Some, None}
+use Rattle.std.specs.Prelude.{ℕ, List, [], ◌∷◌, codes, Option, Some, None, if◌then◌else◌}
+use Rattle.std.specs.Str.{bytes_eq}
 use Rattle.qterm.specs.declared.name.Sort.TheVariants as sort
 use Rattle.qterm.specs.Tree.{Var}
 use Rattle.qgoal.specs.declared.precision.Precision.TheVariants.{Precise}
@@ -9,7 +10,7 @@ use Rattle.strat_text.specs.declared.strategy.Strategy.TheVariants as strategy
 use Rattle.deriv.specs.declared.kind.Kind.{Kind}
 use Rattle.deriv.specs.declared.kind.Kind.TheVariants as kind
 use Rattle.deriv.specs.Params.{defaults}
-use Rattle.deriv.specs.Outcome.{Done, Failed, Told, TooDeep}
+use Rattle.deriv.specs.Outcome.{Done, Failed, Told}
 use Rattle.deriv.specs.Trees as kept
 use Rattle.deriv.specs.Trees.{Der, der, none, more, no_pairs, pair}
 use Rattle.deriv.specs.Derives.{World, world, Derives}
@@ -22,14 +23,13 @@ skip = strategy.Prim (codes "skip")
 abbrev pub fail : Strategy
 fail = strategy.Prim (codes "fail")
 
--- the kinds of the names have both
-pub record HasBoth (kinds : List ℕ → Option Kind) : Type 0 where
-  pub skips : kinds (codes "skip") ≡ Some kind.Skip
-  pub fails : kinds (codes "fail") ≡ Some kind.Fail
+-- the kinds of both names
+abbrev pub both : List ℕ → Option Kind
+both name = if bytes_eq name (codes "skip") then Some kind.Skip else if bytes_eq name (codes "fail") then Some kind.Fail else None
 
 -- a check by so many workers
-abbrev pub check_by : ℕ → (List ℕ → Option Kind) → World
-check_by workers kinds = world rows probe_of kinds workers 100 0
+abbrev pub check_by : ℕ → World
+check_by workers = world rows probe_of both workers 100 0
 
 -- the goal of one Bool name, and the goal without formulas
 abbrev pub one : GoalTree
