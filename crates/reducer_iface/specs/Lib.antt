@@ -5,6 +5,7 @@ pub mod SkipRow
 pub mod FailRow
 pub mod SimplifyRow
 pub mod SatRow
+pub mod DropWideRow
 pub mod CustomRow
 pub mod Rows
 pub mod Allowed
