@@ -18,6 +18,7 @@ use std::process::Abort;
 use std::test::Fail;
 use strat_text::{ProbeExpr, ReducerName, Strategy};
 use tac_basic::{FailReducer, Skip};
+use tac_bounds::DropWide;
 use tac_cert::cert_fits;
 use tac_sat::Sat;
 use tac_simplify::Simplify;
@@ -92,7 +93,7 @@ fn of_answer(answer: &Answer) -> Found {
 /// Assertions, a strategy, and what the check is to answer.
 type Row = (&'static str, &'static str, Found);
 
-const CHECKS: [Row; 30] = [
+const CHECKS: [Row; 33] = [
     ("pq|p!", "sat", Found::Sat),
     ("pq|p!q!", "sat", Found::Unsat),
     ("pp!", "(or-else fail (then skip sat))", Found::Unsat),
@@ -139,6 +140,17 @@ const CHECKS: [Row; 30] = [
         Found::Sat,
     ),
     ("p", "(then (repeat fail 1) skip)", Found::Told),
+    ("pq|r", "(then drop-wide sat)", Found::Sat),
+    (
+        "pq|r",
+        "(then (using-params drop-wide :drop_wide_max 1) sat)",
+        Found::Goals(1),
+    ),
+    (
+        "pq|rr!",
+        "(then (using-params drop-wide :drop_wide_max 1) sat)",
+        Found::Unsat,
+    ),
 ];
 
 /// Assertions, a strategy, a pool, what the check is to answer, and how many lemmas it is to draw.
@@ -329,8 +341,12 @@ pub fn built(alloc: Global) -> Result<Registry, AllocError> {
         ReducerName::new(alloc, b"simplify")?,
         Box::new(alloc, Simplify)?,
     );
+    let wide = registry.insert(
+        ReducerName::new(alloc, b"drop-wide")?,
+        Box::new(alloc, DropWide)?,
+    );
     let sat = registry.insert(ReducerName::new(alloc, b"sat")?, Box::new(alloc, Sat)?);
-    if is_in(skip) && is_in(fail) && is_in(simplify) && is_in(sat) {
+    if is_in(skip) && is_in(fail) && is_in(simplify) && is_in(wide) && is_in(sat) {
         Ok(registry)
     } else {
         Err(AllocError)
