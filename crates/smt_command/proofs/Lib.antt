@@ -1,0 +1,15 @@
+pub mod Ends
+pub mod Tests
+pub mod Counting
+pub mod ByWords
+pub mod Filled
+pub mod Declared
+pub mod Forces
+pub mod Lawful
+pub mod Keeping
+pub mod Placed
+pub mod Questions
+pub mod Scripts
+pub mod ScriptLaws
+pub mod Settling
+pub mod Opening

@@ -1,0 +1,177 @@
+//! Definitions of names without parameters.
+ghost use Rattle.std.specs.Prelude.{◌≡◌, List, IfOk};
+ghost use Rattle.qterm.specs.Tree.{Tree};
+ghost use Rattle.qterm.specs.Store.{Has, tree_at};
+ghost use Rattle.strat_text.specs.Form.{form_of, forms_of};
+ghost use Rattle.smt_theory.specs.Sorts as sorts;
+ghost use Rattle.smt_words.specs.Command.{command_tree};
+ghost use Rattle.smt_names.specs.Table.{symbols_in};
+ghost use Rattle.smt_names.specs.Given.{IsIn, Gives, Goes, scopes_in, seen};
+ghost use Rattle.smt_command.specs.Given.{Tells, IsCommandIn};
+ghost use Rattle.smt_command.specs.Terms as spec;
+
+use crate::argument::{bad, nothing};
+use crate::declaration::read_sort;
+use qterm::{Sort, Store, TermId};
+use sexp_read::Sexp;
+use smt_names::{State, Table, name_term, new_name, place};
+use smt_term::read_term;
+use smt_words::{Command, ReadError, What, refused};
+use std::alloc::Global;
+
+/// `(define-fun NAME () SORT T)`: from here on the name stands for the term.
+pub(crate) fn read_definition(
+    alloc: Global,
+    bytes: &[u8],
+    args: &[Sexp],
+    at: usize,
+    state: &mut State,
+    store: &mut Store,
+) -> Result<Command, ReadError>
+    requires there { IsIn store.old state.old }
+    ensures read { Gives (command_tree store.new) store.new state.new result (spec.definition (scopes_in store.old state.old.scopes) at (forms_of bytes.now args.now) (seen store.old state.old)) }
+    ensures in_store { IfOk result (IsCommandIn store.new) }
+    ensures goes { Goes store.old state.old store.new state.new }
+{
+    match args {
+        [] => Err(bad(at)),
+        [name, rest @ ..] => {
+            is_new(bytes, &state.symbols, at, name)?;
+            behind_name(alloc, bytes, name, rest, at, state, store)
+        }
+    }
+}
+
+/// A new name.
+fn is_new(bytes: &[u8], symbols: &Table, at: usize, sexp: &Sexp) -> Result<(), ReadError>
+    ensures { (ts : List Tree) → Tells (λ done. done) result (spec.is_new (symbols_in ts symbols.now) at (form_of bytes.now sexp.now)) }
+{
+    match new_name(bytes, symbols, at, sexp) {
+        Ok(_) => Ok(()),
+        Err(error) => Err(error),
+    }
+}
+
+/// What stands behind the name: parameters first.
+fn behind_name(
+    alloc: Global,
+    bytes: &[u8],
+    name: &Sexp,
+    rest: &[Sexp],
+    at: usize,
+    state: &mut State,
+    store: &mut Store,
+) -> Result<Command, ReadError>
+    requires there { IsIn store.old state.old }
+    ensures read { Gives (command_tree store.new) store.new state.new result (spec.behind_name (scopes_in store.old state.old.scopes) at (form_of bytes.now name.now) (forms_of bytes.now rest.now) (seen store.old state.old)) }
+    ensures in_store { IfOk result (IsCommandIn store.new) }
+    ensures goes { Goes store.old state.old store.new state.new }
+{
+    match rest {
+        [] => Err(bad(at)),
+        [parameters, rest @ ..] => {
+            no_parameters(bytes, parameters, at)?;
+            sorted(alloc, bytes, name, rest, at, state, store)
+        }
+    }
+}
+
+/// An empty list of parameters.
+#[tactic(auto, unfolding(strat_text::specs::Form::form_of), using(crate::proofs::Ends::parameters_more))]
+fn no_parameters(bytes: &[u8], sexp: &Sexp, at: usize) -> Result<(), ReadError>
+    ensures { Tells (λ done. done) result (spec.no_parameters at (form_of bytes.now sexp.now)) }
+{
+    match sexp {
+        Sexp::Atom { .. } => Err(bad(at)),
+        Sexp::List { items, .. } => match items.as_slice() {
+            [] => Ok(()),
+            [_, ..] => Err(refused(What::NotYet, at)),
+        },
+    }
+}
+
+/// What stands behind the parameters: a sort first.
+fn sorted(
+    alloc: Global,
+    bytes: &[u8],
+    name: &Sexp,
+    rest: &[Sexp],
+    at: usize,
+    state: &mut State,
+    store: &mut Store,
+) -> Result<Command, ReadError>
+    requires there { IsIn store.old state.old }
+    ensures read { Gives (command_tree store.new) store.new state.new result (spec.sorted (scopes_in store.old state.old.scopes) at (form_of bytes.now name.now) (forms_of bytes.now rest.now) (seen store.old state.old)) }
+    ensures in_store { IfOk result (IsCommandIn store.new) }
+    ensures goes { Goes store.old state.old store.new state.new }
+{
+    match rest {
+        [] => Err(bad(at)),
+        [sort, rest @ ..] => {
+            let sort = read_sort(bytes, sort, at)?;
+            meant(alloc, bytes, name, sort, rest, at, state, store)
+        }
+    }
+}
+
+/// What stands behind the sort: a term.
+fn meant(
+    alloc: Global,
+    bytes: &[u8],
+    name: &Sexp,
+    sort: Sort,
+    rest: &[Sexp],
+    at: usize,
+    state: &mut State,
+    store: &mut Store,
+) -> Result<Command, ReadError>
+    requires there { IsIn store.old state.old }
+    ensures read { Gives (command_tree store.new) store.new state.new result (spec.meant (scopes_in store.old state.old.scopes) at (form_of bytes.now name.now) sort (forms_of bytes.now rest.now) (seen store.old state.old)) }
+    ensures in_store { IfOk result (IsCommandIn store.new) }
+    ensures goes { Goes store.old state.old store.new state.new }
+{
+    match rest {
+        [] => Err(bad(at)),
+        [form, rest @ ..] => {
+            let id = read_term(alloc, bytes, form, at, state, store)?;
+            let place = place(bytes, form);
+            defined(alloc, bytes, name, sort, id, place, rest, at, state, store)
+        }
+    }
+}
+
+/// A term of the sort, and nothing behind it: the name stands for it.
+fn defined(
+    alloc: Global,
+    bytes: &[u8],
+    name: &Sexp,
+    sort: Sort,
+    id: TermId,
+    place: usize,
+    rest: &[Sexp],
+    at: usize,
+    state: &mut State,
+    store: &Store,
+) -> Result<Command, ReadError>
+    requires there { IsIn store.now state.old }
+    requires has { Has store.now id }
+    ensures read { Gives (command_tree store.now) store.now state.new result (spec.defined at (form_of bytes.now name.now) sort place (forms_of bytes.now rest.now) (tree_at store.now id) (seen store.now state.old)) }
+    ensures in_store { IfOk result (IsCommandIn store.now) }
+    ensures goes { Goes store.now state.old store.now state.new }
+{
+    if !same_sort(store.sort(id), sort) {
+        return Err(refused(What::BadSort, place));
+    }
+    nothing(bytes, rest, at)?;
+    name_term(alloc, bytes, name, at, id, state)?;
+    Ok(Command::Define)
+}
+
+fn same_sort(a: Sort, b: Sort) -> bool
+    ensures { result ≡ sorts.same_sort a b }
+{
+    match a {
+        Sort::Bool => matches!(b, Sort::Bool),
+        Sort::Int => matches!(b, Sort::Int),
+    }
+}
