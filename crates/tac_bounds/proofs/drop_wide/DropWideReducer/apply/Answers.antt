@@ -1,5 +1,4 @@
-use Rattle.std.proofs.Common.{◌≡◌, ◌∙◌, All, Err, refl, sym, ap, subst, to_z, of_z, arith}
-use Rattle.std.proofs.lemmas.Int.{ints}
+use Rattle.std.proofs.Common.{◌≡◌, ◌∙◌, All, Err, refl, sym, ap, subst, to_z, of_z}
 use Rattle.std.proofs.lemmas.List.Elements.{All-filter}
 use mir.Syntax.{w128}
 use Rattle.qterm.specs.declared.name.Sort.TheVariants as sort
