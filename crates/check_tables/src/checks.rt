@@ -18,7 +18,7 @@ use std::process::Abort;
 use std::test::Fail;
 use strat_text::{ProbeExpr, ReducerName, Strategy};
 use tac_basic::{FailReducer, Skip};
-use tac_bounds::DropWide;
+use tac_bounds::{AddBounds, DropWide};
 use tac_cert::cert_fits;
 use tac_sat::Sat;
 use tac_simplify::Simplify;
@@ -93,7 +93,7 @@ fn of_answer(answer: &Answer) -> Found {
 /// Assertions, a strategy, and what the check is to answer.
 type Row = (&'static str, &'static str, Found);
 
-const CHECKS: [Row; 33] = [
+const CHECKS: [Row; 40] = [
     ("pq|p!", "sat", Found::Sat),
     ("pq|p!q!", "sat", Found::Unsat),
     ("pp!", "(or-else fail (then skip sat))", Found::Unsat),
@@ -150,6 +150,33 @@ const CHECKS: [Row; 33] = [
         "pq|rr!",
         "(then (using-params drop-wide :drop_wide_max 1) sat)",
         Found::Unsat,
+    ),
+    ("", "add-bounds", Found::Sat),
+    ("F", "add-bounds", Found::Unsat),
+    (
+        "x5<",
+        "(then simplify (fail-if is-bounded))",
+        Found::Goals(1),
+    ),
+    (
+        "x5<",
+        "(then add-bounds (fail-if (and is-bounded (= size 2) (= max-bits 3))))",
+        Found::Told,
+    ),
+    (
+        "x5<",
+        "(then (using-params add-bounds :add_bound_lower 4) (fail-if (= max-bits 1)))",
+        Found::Told,
+    ),
+    (
+        "0x<x1<",
+        "(then add-bounds (fail-if (and is-01 (= size 2))))",
+        Found::Told,
+    ),
+    (
+        "x5<",
+        "(then add-bounds (using-params drop-wide :drop_wide_max 0))",
+        Found::Goals(1),
     ),
 ];
 
@@ -341,12 +368,16 @@ pub fn built(alloc: Global) -> Result<Registry, AllocError> {
         ReducerName::new(alloc, b"simplify")?,
         Box::new(alloc, Simplify)?,
     );
+    let bounds = registry.insert(
+        ReducerName::new(alloc, b"add-bounds")?,
+        Box::new(alloc, AddBounds)?,
+    );
     let wide = registry.insert(
         ReducerName::new(alloc, b"drop-wide")?,
         Box::new(alloc, DropWide)?,
     );
     let sat = registry.insert(ReducerName::new(alloc, b"sat")?, Box::new(alloc, Sat)?);
-    if is_in(skip) && is_in(fail) && is_in(simplify) && is_in(wide) && is_in(sat) {
+    if is_in(skip) && is_in(fail) && is_in(simplify) && is_in(bounds) && is_in(wide) && is_in(sat) {
         Ok(registry)
     } else {
         Err(AllocError)

@@ -6,6 +6,8 @@ pub mod FailRow
 pub mod SimplifyRow
 pub mod SatRow
 pub mod DropWideRow
+pub mod NormalizeBoundsRow
+pub mod AddBoundsRow
 pub mod CustomRow
 pub mod Rows
 pub mod Allowed

@@ -6,6 +6,8 @@ use Rattle.reducer_iface.specs.FailRow.{FailRow}
 use Rattle.reducer_iface.specs.SimplifyRow.{SimplifyRow}
 use Rattle.reducer_iface.specs.SatRow.{SatRow}
 use Rattle.reducer_iface.specs.DropWideRow.{DropWideRow}
+use Rattle.reducer_iface.specs.NormalizeBoundsRow.{NormalizeBoundsRow}
+use Rattle.reducer_iface.specs.AddBoundsRow.{AddBoundsRow}
 use Rattle.reducer_iface.specs.CustomRow.{CustomRow}
 
 -- by kind, under these parameters, of this goal, limit, pool and total drawn: the outcome, the steps of lifting and the spent lemmas
@@ -15,5 +17,7 @@ rows kinds.Fail ps g l pool drawn out lifts spent = FailRow out lifts spent
 rows kinds.Simplify ps g l pool drawn out lifts spent = SimplifyRow g out lifts spent
 rows kinds.Sat ps g l pool drawn out lifts spent = SatRow g l pool drawn out lifts spent
 rows kinds.DropWide ps g l pool drawn out lifts spent = DropWideRow ps.drop_wide_max g out lifts spent
+rows kinds.NormalizeBounds ps g l pool drawn out lifts spent = NormalizeBoundsRow g out lifts spent
+rows kinds.AddBounds ps g l pool drawn out lifts spent = AddBoundsRow ps.add_bound_lower ps.add_bound_upper g out lifts spent
 rows kinds.Custom ps g l pool drawn out lifts spent = CustomRow g out lifts
 rows _ ps g l pool drawn out lifts spent = ⊥

@@ -1,0 +1,4 @@
+pub mod Shifts
+pub mod Steps
+pub mod Lifting
+pub mod Law
