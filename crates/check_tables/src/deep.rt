@@ -37,12 +37,15 @@ fn deep(alloc: Global, parts: u32) -> Result<(Found, u64), AllocError> {
 /// The stack of a thread that runs strategies, in bytes.
 const STACK: usize = 2 << 20;
 
-// The parts of the strategy, and what the check answers. A level of a `then` takes more than 9,000 bytes of stack, so that a derivation of
-// the greatest depth doesn't fit.
+// The parts of the strategy, and what the check answers. With 1,986 parts the derivation is 2,048 deep, and with one more it is too deep.
 #[test]
 fn strategies_of_the_greatest_depth(rt: HostRuntime) -> Result<(), Fail> {
     let alloc = rt.alloc();
-    for (parts, wanted) in [(2, Found::Goals(1)), (100, Found::Goals(1))] {
+    for (parts, wanted) in [
+        (2, Found::Goals(1)),
+        (1986, Found::Goals(1)),
+        (1987, Found::TooDeep),
+    ] {
         let thread = Builder::new()
             .stack_size(STACK)
             .spawn(&rt, move || deep(alloc, parts))?;

@@ -1,5 +1,5 @@
 -- What remains of a chain, by its form.
-use Rattle.std.proofs.Common.{◌≡◌, ◌≤◌, ◌<◌, ◌-◌, ◌∷◌, [], ℕ, List, length, drop, Option, Some, None, Bool as Truth, true, false, refl, sym, ap, subst, ◌∙◌, arith}
+use Rattle.std.proofs.Common.{◌≡◌, ◌≤◌, ◌<◌, ◌-◌, ◌∷◌, [], ℕ, suc, zero, List, length, drop, Option, Some, None, Bool as Truth, true, false, sym, ap, subst, ◌∙◌, arith}
 use Rattle.std.specs.Prelude.{IsSome, is_some}
 use Rattle.std.proofs.lemmas.List.Elements.{All-nil, All-cons, All-head, All-tail}
 use Rattle.qterm.specs.Tree.{Tree}
@@ -16,40 +16,12 @@ use Rattle.lang_runs.specs.declared.ran.Ran.{Ran}
 use Rattle.lang_runs.specs.Strategies.{runs, AllRun}
 use Rattle.lang_runs.specs.Runs.{Setting, IsRun}
 use Rattle.lang_rows.proofs.Staying.{run_has}
-use Rattle.tac_lang.specs.Chain.{rest_of, rank}
-
-pub rank_least : (ps : List Strategy) (t : Option ℕ) → 5 ≤ rank ps t
-rank_least [] t = omega arith
-rank_least (p ∷ []) None = omega arith
-rank_least (p ∷ []) (Some t) = omega arith
-rank_least (p ∷ q ∷ ps) t = omega arith
-
-pub rank_most : (ps : List Strategy) (t : Option ℕ) → rank ps t ≤ 7
-rank_most [] t = omega arith
-rank_most (p ∷ []) None = omega arith
-rank_most (p ∷ []) (Some t) = omega arith
-rank_most (p ∷ q ∷ ps) t = omega arith
-
-pub rank_many : (ps : List Strategy) (t : Option ℕ) → 2 ≤ length ps → rank ps t ≡ 5
-rank_many [] t le = absurd (omega arith)
-rank_many (p ∷ []) t le = absurd (omega arith)
-rank_many (p ∷ q ∷ ps) t le = refl
-
-pub rank_one : (ps : List Strategy) (t : Option ℕ) → length ps ≡ 1 → t ≡ None → rank ps t ≡ 7
-rank_one [] t one is = absurd (omega arith)
-rank_one (p ∷ []) None one is = refl
-rank_one (p ∷ []) (Some t) one is = absurd (cc)
-rank_one (p ∷ q ∷ ps) t one is = absurd (omega arith)
-
-pub rank_turns : (ps : List Strategy) (p : Strategy) (t : ℕ) → ps ≡ p ∷ [] → rank ps (Some t) ≡ 5
-rank_turns ps p t is = ap (λ (xs : List Strategy). rank xs (Some t)) is
+use Rattle.tac_lang.specs.Chain.{rest_of}
 
 -- the part that remains alone
-pub rest_one : (ps : List Strategy) (p : Strategy) (t : Option ℕ) → ps ≡ p ∷ drop 1 ps → length ps ≡ 1 → t ≡ None → rest_of ps t ≡ p
-rest_one [] p t is one no_turn = absurd (omega arith)
-rest_one (q ∷ []) p None is one no_turn = (let e : q ≡ p = cc in e)
-rest_one (q ∷ []) p (Some t) is one no_turn = absurd (cc)
-rest_one (q ∷ r ∷ ps) p t is one no_turn = absurd (omega arith)
+pub rest_one : (ps qs : List Strategy) (p : Strategy) (t : Option ℕ) → ps ≡ p ∷ qs → length qs ≡ 0 → t ≡ None → rest_of ps t ≡ p
+rest_one ps [] p t is none no_turn = ap (λ (xs : List Strategy). rest_of xs t) is ∙ ap (λ (x : Option ℕ). rest_of (p ∷ []) x) no_turn
+rest_one ps (q ∷ qs) p t is none no_turn = absurd (omega (arith, none))
 
 -- no turn is left
 pub rest_none : (ps qs : List Strategy) (p : Strategy) (t : Option ℕ) (k : ℕ) → ps ≡ p ∷ qs → t ≡ Some k → k ≡ 0 → rest_of ps t ≡ strategy.Repeat p 0
@@ -60,12 +32,9 @@ chains_repeat ps qs p t k is some left =
     subst (λ (x : Strategy). Chains (rest_of ps t) p x true) (sym (ap (λ (xs : List Strategy). rest_of xs (Some (k - 1))) is))
     (by_repeat p k (ap (λ (xs : List Strategy). rest_of xs t) is ∙ ap (λ (x : Option ℕ). rest_of (p ∷ qs) x) some) left)
 
-pub chains_then : (ps rest : List Strategy) (p : Strategy) (t : Option ℕ) → ps ≡ p ∷ drop 1 ps → rest ≡ drop 1 ps → 2 ≤ length ps → t ≡ None → Chains (rest_of ps t) p (rest_of rest None) false
-chains_then [] rest p t is behind many no_turn = absurd (omega arith)
-chains_then (q ∷ []) rest p t is behind many no_turn = absurd (omega arith)
-chains_then (q ∷ r ∷ ps) rest p t is behind many no_turn =
-    subst (λ (x : List Strategy). Chains (rest_of (q ∷ r ∷ ps) t) p (rest_of x None) false) (sym behind)
-    (by_then p r ps (ap (λ (x : Option ℕ). rest_of (q ∷ r ∷ ps) x) no_turn ∙ (let e : q ≡ p = cc in ap (λ (x : Strategy). strategy.Then (x ∷ r ∷ ps)) e)))
+pub chains_then : (ps qs : List Strategy) (p : Strategy) (t : Option ℕ) → ps ≡ p ∷ qs → 1 ≤ length qs → t ≡ None → Chains (rest_of ps t) p (rest_of qs None) false
+chains_then ps [] p t is some no_turn = absurd (omega (arith, some))
+chains_then ps (q ∷ qs) p t is some no_turn = by_then p q qs (ap (λ (xs : List Strategy). rest_of xs t) is ∙ ap (λ (x : Option ℕ). rest_of (p ∷ q ∷ qs) x) no_turn)
 
 -- a chain that may rest is a repeat with a turn left
 pub is_repeat : (s p r : Strategy) (b : Truth) → b ≡ true → Chains s p r b → (k : ℕ) × (s ≡ strategy.Repeat p k) × (0 < k)
@@ -76,11 +45,11 @@ pub some_is : (t : Option ℕ) → IsSome t → is_some t ≡ true
 some_is t is = is
 
 -- the parts of a chain run
-pub first_runs : (names : Names) (ps : List Strategy) (p : Strategy) → AllRun names ps → ps ≡ p ∷ drop 1 ps → runs names p ≡ true
-first_runs names ps p all is = All-head (λ (s : Strategy). runs names s ≡ true) p (drop 1 ps) (subst (λ (xs : List Strategy). AllRun names xs) is all)
-
-pub rest_runs : (names : Names) (ps rest : List Strategy) (p : Strategy) → AllRun names ps → ps ≡ p ∷ drop 1 ps → rest ≡ drop 1 ps → AllRun names rest
-rest_runs names ps rest p all is behind = subst (λ (xs : List Strategy). AllRun names xs) (sym behind) (All-tail (λ (s : Strategy). runs names s ≡ true) p (drop 1 ps) (subst (λ (xs : List Strategy). AllRun names xs) is all))
+pub part_runs : (names : Names) (parts : List Strategy) (k : ℕ) (p : Strategy) (rest : List Strategy) → AllRun names parts → drop k parts ≡ p ∷ rest → runs names p ≡ true
+part_runs names [] zero p rest all is = cc
+part_runs names [] (suc k) p rest all is = cc
+part_runs names (q ∷ parts) zero p rest all is = (let same : q ≡ p = cc in subst (λ (x : Strategy). runs names x ≡ true) same (All-head (λ (s : Strategy). runs names s ≡ true) q parts all))
+part_runs names (q ∷ parts) (suc k) p rest all is = part_runs names parts k p rest (All-tail (λ (s : Strategy). runs names s ≡ true) q parts all) is
 
 -- what goes on goes on over a later store
 pub goes_later : (c : Setting) (top : ℕ) (ts us : List Tree) (b : Truth) (g : GoalTree) (s : Strategy) (l : Option ℕ) (ps : Params) (n : ℕ) (r : Ran) (h k : GoalTree) → Extends ts us → IsRun c top ts s g l ps n r → h ≡ k → GoesOn b h (goal_trees ts r.goals) → GoesOn b k (goal_trees us r.goals)
@@ -98,8 +67,3 @@ repeat_is s p t ps is same = ap (λ (xs : List Strategy). rest_of xs (Some t)) s
 
 pub alone_runs : (names : Names) (p : Strategy) (ps : List Strategy) → ps ≡ p ∷ [] → runs names p ≡ true → AllRun names ps
 alone_runs names p ps is one = subst (λ (xs : List Strategy). AllRun names xs) (sym is) (All-cons (λ (s : Strategy). runs names s ≡ true) p [] one (All-nil (λ (s : Strategy). runs names s ≡ true)))
-
-pub behind_some : (ps rest : List Strategy) → rest ≡ drop 1 ps → 2 ≤ length ps → 1 ≤ length rest
-behind_some [] rest is many = absurd (omega arith)
-behind_some (p ∷ []) rest is many = absurd (omega arith)
-behind_some (p ∷ q ∷ ps) rest is many = rw is (omega arith)

@@ -9,10 +9,3 @@ abbrev pub rest_of : List Strategy → Option ℕ → Strategy
 rest_of [] turns = strategy.Then []
 rest_of (p ∷ ps) None = remaining p ps
 rest_of (p ∷ ps) (Some turns) = strategy.Repeat p turns
-
--- how far a call stands above the calls that it makes at its own depth: a part that remains alone is run by itself
-abbrev pub rank : List Strategy → Option ℕ → ℕ
-rank [] turns = 5
-rank (p ∷ []) None = 7
-rank (p ∷ []) (Some turns) = 5
-rank (p ∷ q ∷ ps) turns = 5

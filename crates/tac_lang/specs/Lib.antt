@@ -1,2 +1,4 @@
 pub mod Ready
 pub mod Chain
+pub mod Levels
+pub mod Nesting

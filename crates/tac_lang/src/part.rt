@@ -1,5 +1,5 @@
 //! Parts of strategies, and steps between their runs.
-ghost use Rattle.std.specs.Prelude.{◌≡◌, ◌≤◌, ◌∷◌, [], ◌++◌, ◌+◌, ℕ, List, Option, All, IfOk, IsSome, MatchBool, length, drop, is_some, if◌then◌else◌, false, IsTrue};
+ghost use Rattle.std.specs.Prelude.{◌≡◌, ◌<◌, ◌∷◌, [], ◌++◌, ◌+◌, ℕ, List, Option, All, IfOk, IsSome, MatchBool, length, drop, is_some, if◌then◌else◌, false, IsTrue};
 ghost use Rattle.qterm.specs.Tree.{Tree};
 ghost use Rattle.qgoal.specs.declared.goal.Goal.{Goal};
 ghost use Rattle.qgoal.specs.Goal.{GoalTree, HasGoal, goal_tree};
@@ -37,20 +37,12 @@ pub(crate) fn chosen<'a>(value: i128, part: &'a Strategy, other: &'a Strategy) -
     if is_true(value) { part } else { other }
 }
 
-/// The first of the parts.
-pub(crate) fn first_of(parts: &[Strategy]) -> &Strategy
-    requires some { 1 ≤ length parts.now }
-    ensures { parts.now ≡ result.now ∷ drop 1 parts.now }
+/// The part at a place.
+pub(crate) fn part_at(parts: &[Strategy], at: usize) -> &Strategy
+    requires some { at < length parts.now }
+    ensures { drop at parts.now ≡ result.now ∷ drop (at + 1) parts.now }
 {
-    &parts[0]
-}
-
-/// The parts behind the first.
-pub(crate) fn behind_first(parts: &[Strategy]) -> &[Strategy]
-    requires some { 1 ≤ length parts.now }
-    ensures { result.now ≡ drop 1 parts.now }
-{
-    &parts[1..]
+    &parts[at]
 }
 
 /// Whether a repeat rests: its part gave the goal alone and unchanged. Else what follows runs on the goals.

@@ -1,5 +1,8 @@
 //! The cycle: a strategy is run on a goal at a depth, by its form.
-ghost use Rattle.std.specs.Prelude.{◌≡◌, ◌≤◌, ◌+◌, true, ℤ, length, is_some};
+//!
+//! A call runs a part of the strategy that the call round it runs, so that calls stand in one another as deep as forms do: 64 deep for
+//! a strategy that has a text. Turns of a repeat and parts of a `then` don't count.
+ghost use Rattle.std.specs.Prelude.{◌≡◌, ◌≤◌, ◌<◌, ◌+◌, true, ℤ, length, drop, reverse, is_some};
 ghost use Rattle.qterm.specs.Store.{Extends};
 ghost use Rattle.qgoal.specs.Goal.{goal_tree};
 ghost use Rattle.strat_text.specs.declared.strategy.Strategy.{Strategy};
@@ -8,27 +11,23 @@ ghost use Rattle.strat_text.specs.Allowed.{are_settings};
 ghost use Rattle.race_word.specs.declared.view.View.{View};
 ghost use Rattle.race_word.specs.Keeps.{Keeps};
 ghost use Rattle.deriv.specs.declared.params.Params.{Params};
-ghost use Rattle.deriv.specs.Outcome.{goal_trees};
-ghost use Rattle.deriv.specs.Derives.{InOrder, Chains, GoesOn};
+ghost use Rattle.deriv.specs.Derives.{InOrder, Chains};
 ghost use Rattle.lang_runs.specs.Strategies.{runs, AllRun};
 ghost use Rattle.lang_runs.specs.Runs.{HasRun};
 ghost use Rattle.lang_runs.specs.Drawn.{RunTally};
 ghost use Rattle.lang_runs.specs.Forms.{Surrounds};
-ghost use Rattle.lang_rows.specs.Rows.{IsRow};
 ghost use Rattle.lang_rows.specs.Beside.{AreBeside};
-ghost use Rattle.lang_rows.specs.Drawn.{RowTally, BesideTally};
+ghost use Rattle.lang_rows.specs.Drawn.{BesideTally};
 ghost use Rattle.tac_lang.specs.Ready.{setting, IsReady};
 ghost use Rattle.tac_lang.specs.Chain.{rest_of};
+ghost use Rattle.tac_lang.specs.Levels.{Task, task, IsUnderWay, IsLevel, Waits, IsTurn, IsAt, left_in, left_under};
+ghost use Rattle.tac_lang.specs.declared.level.Turn.TheVariants as variants;
 
 use crate::leaf::{run_fail_if, run_prim};
-use crate::part::{
-    behind_first, chosen, first_of, is_at_rest, is_true, with_failure, with_part, with_run,
-};
+use crate::level::{Level, Turn, begun, finished, resumed, stepped};
+use crate::part::{chosen, is_true, part_at, with_failure, with_part};
 use crate::table::Table;
-use lang_rows::{
-    Beside, Part, Row, beside_first_failed, finish, finish_beside, finish_beside_sat,
-    finish_failed, finish_sat, first_failed, is_sat, rests,
-};
+use lang_rows::{Beside, Part, beside_first_failed, finish_beside, finish_beside_sat, is_sat};
 use lang_runs::{
     Around, Failures, Ran, RunStop, copied, lesser, rests_alone, stopped, surround, tried,
     tried_all,
@@ -449,7 +448,10 @@ fn run_tries<T: Table>(
     tried_all(kept, env.limit, failures)
 }
 
-/// Runs what remains of a chain: the parts of a `then`, or so many turns of a repeat.
+/// Runs a chain: the parts of a `then`, or so many turns of a repeat.
+///
+/// The run of each part stands in that of the part before, as deep as the derivation. All of them are levels on the heap: what recurses
+/// is the run of a part, whose strategy is one less deep.
 #[cycle(run)]
 fn run_parts<T: Table>(
     alloc: Global,
@@ -471,20 +473,119 @@ fn run_parts<T: Table>(
     ensures store { Extends store.old store.new }
     ensures racer { Keeps racer.old racer.new }
 {
-    if depth > DEEPEST {
-        return stopped(goal, env.limit);
+    let mut turn = start(
+        alloc, table, parts, 0, turns, store, goal, env, races, racer, depth,
+    );
+    let mut levels = Vec::new(alloc);
+    loop {
+        match turn {
+            Turn::Down(level) => {
+                turn = go_down(
+                    alloc,
+                    table,
+                    parts,
+                    level,
+                    &mut levels,
+                    store,
+                    env,
+                    races,
+                    racer,
+                );
+            }
+            Turn::Ended(answer) => match levels.pop() {
+                Some(level) => turn = resumed(alloc, level, answer),
+                None => {
+                    levels.destroy_empty();
+                    return answer;
+                }
+            },
+        }
     }
-    let part = first_of(parts);
+}
+
+/// Runs the rest of a chain on the next goal of a level up to a level more, or ends the level where the rest ran on all.
+#[cycle(run)]
+fn go_down<T: Table>(
+    alloc: Global,
+    table: &T,
+    parts: &[Strategy],
+    level: Level,
+    levels: &mut Vec<Level>,
+    store: &mut Store,
+    env: &Env,
+    races: &Races,
+    racer: &mut Racer,
+) -> Turn
+    requires parts { AllRun (T.kinds table.now) parts.now }
+    requires level { IsUnderWay (setting (T.kinds table.now) T.value_of env.now) racer.old.view.top store.old parts.now env.now.params level }
+    requires ready { IsReady races.now racer.old store.old level.goal env.now (level.depth + 1) }
+    ensures at { (whole t : Task) → IsLevel (setting (T.kinds table.now) T.value_of env.now) racer.old.view.top store.old parts.now env.now.params t racer.old.view level → Waits (setting (T.kinds table.now) T.value_of env.now) racer.old.view.top store.old parts.now env.now.params whole (reverse levels.old.items) t → IsAt (setting (T.kinds table.now) T.value_of env.now) store.new parts.now env.now.params racer.old.chain racer.new.view whole (reverse levels.new.items) result }
+    ensures less { (t : Task) → IsLevel (setting (T.kinds table.now) T.value_of env.now) racer.old.view.top store.old parts.now env.now.params t racer.old.view level → left_in result + left_under (reverse levels.new.items) < left_in (variants.Down level) + left_under (reverse levels.old.items) }
+    ensures store { Extends store.old store.new }
+    ensures racer { Keeps racer.old racer.new }
+{
+    match level.row.next() {
+        Some(next) => {
+            let below = Env {
+                limit: level.row.left,
+                ..*env
+            };
+            let turn = start(
+                alloc,
+                table,
+                parts,
+                level.at,
+                level.turns,
+                store,
+                next,
+                &below,
+                races,
+                racer,
+                level.depth + 1,
+            );
+            stepped(alloc, level, levels, turn)
+        }
+        None => Turn::Ended(finished(alloc, level)),
+    }
+}
+
+/// Runs what remains of a chain from a place on, up to its first level.
+#[cycle(run)]
+fn start<T: Table>(
+    alloc: Global,
+    table: &T,
+    parts: &[Strategy],
+    at: usize,
+    turns: Option<u64>,
+    store: &mut Store,
+    goal: &Goal,
+    env: &Env,
+    races: &Races,
+    racer: &mut Racer,
+    depth: u32,
+) -> Turn
+    requires parts { AllRun (T.kinds table.now) parts.now }
+    requires some { at < length parts.now }
+    requires ready { IsReady races.now racer.old store.old goal.now env.now depth }
+    ensures turn { IsTurn (setting (T.kinds table.now) T.value_of env.now) store.new parts.now env.now.params racer.old.chain racer.new.view (task (rest_of (drop at parts.now) turns) (goal_tree store.old goal.now) env.now.limit depth racer.old.view) result }
+    ensures store { Extends store.old store.new }
+    ensures racer { Keeps racer.old racer.new }
+{
+    if depth > DEEPEST {
+        return Turn::Ended(stopped(goal, env.limit));
+    }
+    let part = part_at(parts, at);
     match turns {
         Some(turns) => {
             if turns == 0 {
-                return rests_alone(alloc, goal, env.limit, 0);
+                return Turn::Ended(rests_alone(alloc, goal, env.limit, 0));
             }
-            run_chain(
+            run_first(
                 alloc,
                 table,
-                part,
                 parts,
+                part,
+                at,
                 Some(turns - 1),
                 store,
                 goal,
@@ -495,24 +596,37 @@ fn run_parts<T: Table>(
             )
         }
         None => {
-            if parts.len() == 1 {
-                return run_at(alloc, table, part, store, goal, env, races, racer, depth);
+            if at + 1 == parts.len() {
+                return Turn::Ended(run_at(
+                    alloc, table, part, store, goal, env, races, racer, depth,
+                ));
             }
-            let rest = behind_first(parts);
-            run_chain(
-                alloc, table, part, rest, None, store, goal, env, races, racer, depth,
+            run_first(
+                alloc,
+                table,
+                parts,
+                part,
+                at + 1,
+                None,
+                store,
+                goal,
+                env,
+                races,
+                racer,
+                depth,
             )
         }
     }
 }
 
-/// Runs the first part of a chain, and the rest on its goals.
+/// Runs the first part of a chain, whose rest begins at a place.
 #[cycle(run)]
-fn run_chain<T: Table>(
+fn run_first<T: Table>(
     alloc: Global,
     table: &T,
+    parts: &[Strategy],
     part: &Strategy,
-    rest: &[Strategy],
+    at: usize,
     turns: Option<u64>,
     store: &mut Store,
     goal: &Goal,
@@ -520,18 +634,18 @@ fn run_chain<T: Table>(
     races: &Races,
     racer: &mut Racer,
     depth: u32,
-) -> Result<Ran, RunStop>
+) -> Turn
     requires part { runs (T.kinds table.now) part.now ≡ true }
-    requires rest { AllRun (T.kinds table.now) rest.now }
-    requires some { 1 ≤ length rest.now }
+    requires some { at < length parts.now }
     requires ready { IsReady races.now racer.old store.old goal.now env.now (depth + 1) }
-    ensures run { (s : Strategy) → Chains s part.now (rest_of rest.now turns) (is_some turns) → HasRun (setting (T.kinds table.now) T.value_of env.now) store.new s (goal_tree store.old goal.now) env.now.limit env.now.params depth racer.old.chain racer.new.view result }
-    ensures draws { RunTally racer.old.view racer.new.view result }
+    ensures turn { (s : Strategy) → Chains s part.now (rest_of (drop at parts.now) turns) (is_some turns) → IsTurn (setting (T.kinds table.now) T.value_of env.now) store.new parts.now env.now.params racer.old.chain racer.new.view (task s (goal_tree store.old goal.now) env.now.limit depth racer.old.view) result }
     ensures store { Extends store.old store.new }
     ensures racer { Keeps racer.old racer.new }
 {
-    let kept = copied(goal)?;
-    match run_at(
+    let Ok(kept) = copied(goal) else {
+        return Turn::Ended(Err(RunStop::Memory));
+    };
+    let first = run_at(
         alloc,
         table,
         part,
@@ -541,86 +655,8 @@ fn run_chain<T: Table>(
         races,
         racer,
         depth + 1,
-    ) {
-        Ok(first) => {
-            if is_at_rest(turns, store, goal, first.goals.as_slice()) {
-                return rests(alloc, kept, env.limit, first);
-            }
-            let row = Row::new(alloc, first, env.limit);
-            run_rest(
-                alloc, table, part, rest, turns, kept, row, store, env, races, racer, depth,
-            )
-        }
-        Err(RunStop::Failed(first)) => first_failed(alloc, kept, env.limit, first),
-        Err(RunStop::Cancelled { seen }) => Err(RunStop::Cancelled { seen }),
-        Err(RunStop::Memory) => Err(RunStop::Memory),
-    }
-}
-
-/// Runs the rest of a chain on the goals of a row, in order, until one run is sat or fails.
-#[cycle(run)]
-fn run_rest<T: Table>(
-    alloc: Global,
-    table: &T,
-    part: &Strategy,
-    rest: &[Strategy],
-    turns: Option<u64>,
-    goal: Goal,
-    row: Row,
-    store: &mut Store,
-    env: &Env,
-    races: &Races,
-    racer: &mut Racer,
-    depth: u32,
-) -> Result<Ran, RunStop>
-    requires rest { AllRun (T.kinds table.now) rest.now }
-    requires some { 1 ≤ length rest.now }
-    requires ready { IsReady races.now racer.old store.old goal env.now (depth + 1) }
-    requires row { IsRow (setting (T.kinds table.now) T.value_of env.now) racer.old.view.top store.old part.now (rest_of rest.now turns) (goal_tree store.old goal) env.now.limit env.now.params (depth + 1) row }
-    requires goes { GoesOn (is_some turns) (goal_tree store.old goal) (goal_trees store.old row.first.goals) }
-    ensures run { (s : Strategy) → Chains s part.now (rest_of rest.now turns) (is_some turns) → HasRun (setting (T.kinds table.now) T.value_of env.now) store.new s (goal_tree store.old goal) env.now.limit env.now.params depth racer.old.chain racer.new.view result }
-    ensures draws { (before : View) → RowTally before racer.old.view row → RunTally before racer.new.view result }
-    ensures store { Extends store.old store.new }
-    ensures racer { Keeps racer.old racer.new }
-{
-    let mut row = row;
-    while let Some(next) = row.next() {
-        let below = Env {
-            limit: row.left,
-            ..*env
-        };
-        match run_parts(
-            alloc,
-            table,
-            rest,
-            turns,
-            store,
-            next,
-            &below,
-            races,
-            racer,
-            depth + 1,
-        ) {
-            Ok(ran) => {
-                if is_sat(&ran) {
-                    return finish_sat(alloc, goal, env.limit, row, ran);
-                }
-                row = with_run(row, ran)?;
-            }
-            Err(RunStop::Failed(last)) => {
-                return finish_failed(alloc, goal, env.limit, row, last);
-            }
-            Err(RunStop::Cancelled { seen }) => {
-                row.discard(Discarded::Cancelled);
-                return Err(RunStop::Cancelled { seen });
-            }
-            Err(RunStop::Memory) => {
-                row.discard(Discarded::Memory);
-                return Err(RunStop::Memory);
-            }
-        }
-    }
-    finish(alloc, goal, env.limit, row)
+    );
+    begun(alloc, store, kept, env.limit, depth, at, turns, first)
 }
 
 /// Runs the first part of a `par-then`, and the second on its goals.
