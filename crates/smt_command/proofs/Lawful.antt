@@ -25,7 +25,7 @@ use Rattle.smt_names.specs.Table.{Symbol, meaning_of}
 use Rattle.smt_names.specs.Text.{name_of, keyword_of, string_of, is_name_text}
 use Rattle.smt_names.specs.Names.{new_name, is_taken, free_name}
 use Rattle.smt_names.proofs.Texts.{text_decides}
-use Rattle.smt_command.specs.Given.{IsCommandIn}
+use Rattle.smt_command.specs.Given.{HasTerms}
 use Rattle.smt_command.specs.Reading.{Test, and, only, most_levels, read_logic, logic_in, declared, read_sort, read_const, read_fun, fun_declared, no_sorts, truth_of, is_there, print_success, option_with, option_alone, option_by, option_keyed, read_option, info_value, read_set_info, info_keyed, read_get_info, pushed, popped, read_count, strategy_of, using, read_using, echoed, read_echo, plain_command}
 
 -- ---- tests
@@ -213,7 +213,7 @@ module _ (symbols : List Symbol) (levels : ℕ) where
   plain_gives names other at args = tt
 
   -- it has no terms
-  pub plain_in : (ts us : List Tree) (c : Command) → IsPlainLawful symbols levels (command_tree ts c) → IsCommandIn us c
+  pub plain_in : (ts us : List Tree) (c : Command) → IsPlainLawful symbols levels (command_tree ts c) → HasTerms us c
   plain_in ts us (code.Assert id) h = absurd h
   plain_in ts us (code.GetValue asked) h = absurd h
   plain_in ts us other h = tt

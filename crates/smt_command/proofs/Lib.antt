@@ -13,3 +13,5 @@ pub mod Scripts
 pub mod ScriptLaws
 pub mod Settling
 pub mod Opening
+pub mod Shallow
+pub mod Counted

@@ -10,11 +10,11 @@ use Rattle.smt_words.specs.declared.command.Command.TheVariants as command
 use Rattle.smt_words.specs.declared.command.Asked.{Asked}
 use Rattle.smt_words.specs.declared.script.Placed.{Placed}
 use Rattle.smt_words.specs.Command.{Assert, GetValue, AskedTree, PlacedTree, asked_tree, command_tree, placed_tree}
-use Rattle.smt_command.specs.Given.{AreAsked, IsCommandIn}
+use Rattle.smt_command.specs.Given.{AreAsked, HasTerms}
 
 -- a command that is in the store
 abbrev pub IsPlacedIn : List Tree → Placed → Type 0
-IsPlacedIn ts placed = IsCommandIn ts placed.command
+IsPlacedIn ts placed = HasTerms ts placed.command
 
 -- asked terms stay in a store that grows
 pub AreAsked_extends : (ts us : List Tree) (asked : List Asked) → Extends ts us → AreAsked ts asked → AreAsked us asked
@@ -34,13 +34,13 @@ asked_push ts [] a = refl
 asked_push ts (b ∷ asked) a = ap (λ l. asked_tree ts b ∷ l) (asked_push ts asked a)
 
 -- a command stays in a store that grows
-pub IsCommandIn_extends : (ts us : List Tree) (c : Command) → Extends ts us → IsCommandIn ts c → IsCommandIn us c
-IsCommandIn_extends ts us (command.Assert id) e h = HasSort_extends sort.Bool ts us id e h
-IsCommandIn_extends ts us (command.GetValue asked) e h = AreAsked_extends ts us asked e h
-IsCommandIn_extends ts us other e h = tt
+pub HasTerms_extends : (ts us : List Tree) (c : Command) → Extends ts us → HasTerms ts c → HasTerms us c
+HasTerms_extends ts us (command.Assert id) e h = HasSort_extends sort.Bool ts us id e h
+HasTerms_extends ts us (command.GetValue asked) e h = AreAsked_extends ts us asked e h
+HasTerms_extends ts us other e h = tt
 
 -- and keeps its trees
-pub command_tree_extends : (ts us : List Tree) (c : Command) → Extends ts us → IsCommandIn ts c → command_tree us c ≡ command_tree ts c
+pub command_tree_extends : (ts us : List Tree) (c : Command) → Extends ts us → HasTerms ts c → command_tree us c ≡ command_tree ts c
 command_tree_extends ts us (command.Assert id) e h = ap Assert (e.same id h.0)
 command_tree_extends ts us (command.GetValue asked) e h = ap GetValue (asked_extends ts us asked e h)
 command_tree_extends ts us other e h = refl
@@ -66,4 +66,4 @@ placed_more ts us ps p e h = map-push us ps p ∙ ap (λ l. l ++ placed_tree us 
 
 -- and all of them are in the store
 pub in_more : (ts us : List Tree) (ps : List Placed) (p : Placed) → Extends ts us → All (IsPlacedIn ts) ps → IsPlacedIn us p → All (IsPlacedIn us) (ps ++ p ∷ [])
-in_more ts us ps p e h g = All-push (IsPlacedIn us) ps p (All-weaker (IsPlacedIn ts) (IsPlacedIn us) ps (λ q. IsCommandIn_extends ts us q.command e) h) g
+in_more ts us ps p e h g = All-push (IsPlacedIn us) ps p (All-weaker (IsPlacedIn ts) (IsPlacedIn us) ps (λ q. HasTerms_extends ts us q.command e) h) g

@@ -3,7 +3,6 @@ use Rattle.std.proofs.Common.{◌≡◌, ◌<◌, ◌≤◌, ◌+◌, ℕ, true,
 use Rattle.std.proofs.lemmas.List.{drop_all}
 use Rattle.std.specs.Prelude.{IsErrAnd}
 use Rattle.sexp_read.specs.declared.sexp.Sexp.{Sexp}
-use Rattle.sexp_read.specs.Atoms.{start_of, end_of}
 use Rattle.qterm.specs.Tree.{Tree}
 use Rattle.qterm.specs.Store.{tree_at, Extends}
 use Rattle.strat_text.specs.Form.{form_of}
@@ -20,27 +19,27 @@ use Rattle.smt_names.proofs.Forms.{split_at}
 use Rattle.smt_names.proofs.Readings.{gives_handed}
 use Rattle.smt_term.specs.Term.{read_term}
 use Rattle.smt_command.specs.Given.{AreAsked}
-use Rattle.smt_command.specs.Terms.{asked, asked_more, asked_from}
+use Rattle.smt_command.specs.Terms.{asked, start_within, end_within, asked_more, asked_from}
 use Rattle.smt_command.proofs.Placed.{asked_extends, asked_push}
 
 -- one more asked term over a store that grew
-asked_pushed : (ts us : List Tree) (old new : List Asked) (sexp : Sexp) (one : Asked) → Extends ts us → AreAsked ts old → new ≡ old ++ one ∷ [] → one.start ≡ start_of sexp → one.end ≡ end_of sexp
-    → map (asked_tree us) new ≡ map (asked_tree ts) old ++ asked sexp (tree_at us one.term) ∷ []
-asked_pushed ts us old new sexp one e h is start end =
-    let last : asked_tree us one ≡ asked sexp (tree_at us one.term) = λ i. record { term = tree_at us one.term; start = start i; end = end i } in
+asked_pushed : (bytes : List ℕ) (ts us : List Tree) (old new : List Asked) (sexp : Sexp) (one : Asked) → Extends ts us → AreAsked ts old → new ≡ old ++ one ∷ [] → one.start ≡ start_within bytes sexp → one.end ≡ end_within bytes sexp
+    → map (asked_tree us) new ≡ map (asked_tree ts) old ++ asked bytes sexp (tree_at us one.term) ∷ []
+asked_pushed bytes ts us old new sexp one e h is start end =
+    let last : asked_tree us one ≡ asked bytes sexp (tree_at us one.term) = λ i. record { term = tree_at us one.term; start = start i; end = end i } in
     ap (map (asked_tree us)) is ∙ asked_push us old one ∙ (λ i. asked_extends ts us old e h i ++ last i ∷ [])
 
 -- a term that is read is asked for
-pub asked_read : (S : Scopes) (bytes : List ℕ) (sexp : Sexp) (ts us : List Tree) (old new : List Asked) (one : Asked) (s u : State) → Extends ts us → AreAsked ts old → new ≡ old ++ one ∷ [] → one.start ≡ start_of sexp → one.end ≡ end_of sexp
+pub asked_read : (S : Scopes) (bytes : List ℕ) (sexp : Sexp) (ts us : List Tree) (old new : List Asked) (one : Asked) (s u : State) → Extends ts us → AreAsked ts old → new ≡ old ++ one ∷ [] → one.start ≡ start_within bytes sexp → one.end ≡ end_within bytes sexp
     → may_be_term (form_of bytes sexp) ≡ true → read_term S (form_of bytes sexp) 0 s ≡ Ok (tree_at us one.term, u) → asked_more S bytes sexp (map (asked_tree ts) old) s ≡ Ok (map (asked_tree us) new, u)
 asked_read S bytes sexp ts us old new one s u e h is start end may given =
-    rw may (ap (λ r. and_then r (λ t. done (map (asked_tree ts) old ++ asked sexp t ∷ []))) given) ∙ ap (λ l. Ok (l, u)) (sym (asked_pushed ts us old new sexp one e h is start end))
+    rw may (ap (λ r. and_then r (λ t. done (map (asked_tree ts) old ++ asked bytes sexp t ∷ []))) given) ∙ ap (λ l. Ok (l, u)) (sym (asked_pushed bytes ts us old new sexp one e h is start end))
 
 -- the refusal of a term
 pub asked_fault : {C : Type 0} (look : C → List AskedTree) (us : List Tree) (t : StateId) (S : Scopes) (bytes : List ℕ) (sexp : Sexp) (front : List AskedTree) (s : State) (e : ReadError) (answer : Result C ReadError) → IsErrAnd answer (λ told. told ≡ e)
     → may_be_term (form_of bytes sexp) ≡ true → Refuses e (read_term S (form_of bytes sexp) 0 s) → Gives look us t answer (asked_more S bytes sexp front s)
 asked_fault look us t S bytes sexp front s e answer handed may given =
-    rw may (gives_handed look us t e (read_term S (form_of bytes sexp) 0 s) (λ x. done (front ++ asked sexp x ∷ [])) answer handed given)
+    rw may (gives_handed look us t e (read_term S (form_of bytes sexp) 0 s) (λ x. done (front ++ asked bytes sexp x ∷ [])) answer handed given)
 
 module _ (S : Scopes) (bytes : List ℕ) (items : List Sexp) (i : ℕ) (x : Sexp) (within : i < length items) (is : x ≡ get_or items i x) (front : List AskedTree) (s : State)
     (all : Result (List AskedTree × State) ScriptError) (told : asked_from S bytes (drop i items) front s ≡ all) where

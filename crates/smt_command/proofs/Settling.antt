@@ -1,10 +1,10 @@
 -- A command that is read, and then what it changes.
-use Rattle.std.proofs.Common.{◌≡◌, ℕ, List, [], Result, Ok, Err, length, ap, sym, subst, ◌∙◌}
-use Rattle.std.specs.Prelude.{IfOk, IsErrAnd, Some}
+use Rattle.std.proofs.Common.{◌≡◌, ℕ, List, [], ◌++◌, Result, Ok, Err, length, ap, sym, subst, ◌∙◌}
+use Rattle.std.specs.Prelude.{⊤, IfOk, IsErrAnd, Some}
 use Rattle.sexp_read.specs.declared.sexp.Sexp.{Sexp}
 use Rattle.sexp_read.specs.Atoms.{start_of}
 use Rattle.qterm.specs.Tree.{Tree}
-use Rattle.qterm.specs.Store.{Extends}
+use Rattle.qterm.specs.Store.{Extends, trees_of}
 use Rattle.strat_text.specs.Grammar.{Names}
 use Rattle.smt_words.specs.declared.command.Command.{Command}
 use Rattle.smt_words.specs.declared.error.ScriptError.{ScriptError}
@@ -19,9 +19,12 @@ use Rattle.smt_command.specs.declared.symbols.Symbols.{Symbols}
 use Rattle.smt_command.specs.declared.reading.Found.TheVariants as found
 use Rattle.smt_command.specs.Change.{InForce, in_force, changed}
 use Rattle.smt_command.specs.Laws.{IsLawful, IsNew}
+use Rattle.smt_command.specs.Limits.{terms_of, limited}
+use Rattle.smt_command.specs.Reading.{Test, and}
 use Rattle.smt_command.specs.Terms.{read_sexp, settled, read_command}
+use Rattle.smt_command.proofs.Tests.{refuses_and}
 use Rattle.smt_command.specs.Script.{goes_to, command_at}
-use Rattle.smt_command.specs.Given.{Reads, IsCommandIn, IsFound}
+use Rattle.smt_command.specs.Given.{Reads, HasTerms, IsFound}
 use Rattle.smt_command.proofs.Placed.{command_tree_extends}
 use Rattle.smt_command.proofs.Keeping.{IsRead, begun, read_gives}
 
@@ -38,8 +41,8 @@ module _ (names : Names) (bytes : List ℕ) (sexp : Sexp) (ts : List Tree) (old 
   same : read_sexp names (scopes_in ts st.scopes) levels bytes sexp (seen ts st) ≡ read_sexp names [] (length old.levels) bytes sexp (record { symbols = symbols_in ts old.state.symbols; bound = [] })
   same = begun names bytes sexp ts old st levels symbols scopes bound l
 
-  settled_err : (e : ReadError) (r : Reading) → Refuses e r → Refuses e (settled old.levels r)
-  settled_err (Refused f) r h = ap (settled old.levels) h
+  settled_err : (e : ReadError) (r : Reading) → Refuses e r → Refuses e (settled (start_of sexp) old.levels r)
+  settled_err (Refused f) r h = ap (settled (start_of sexp) old.levels) h
   settled_err (Memory cause) r h = tt
 
   -- the refusal is that of the command
@@ -51,11 +54,11 @@ module _ (names : Names) (bytes : List ℕ) (sexp : Sexp) (ts : List Tree) (old 
       (settled_err e (read_sexp names [] (length old.levels) bytes sexp (record { symbols = symbols_in ts old.state.symbols; bound = [] })) (subst (Refuses e) same h))
 
   module _ (us : List Tree) (u : StateId) (c : Command) (given : read_sexp names (scopes_in ts st.scopes) levels bytes sexp (seen ts st) ≡ Ok (command_tree us c, seen us u)) where
-    read_law : IsRead (length old.levels) (command_tree us c, seen us u)
+    read_law : IsRead (length old.levels) bytes (command_tree us c, seen us u)
     read_law =
-        let all : IfOk (read_sexp names (scopes_in ts st.scopes) levels bytes sexp (seen ts st)) (IsRead levels) = read_gives levels names (scopes_in ts st.scopes) bytes (seen ts st) sexp in
-        let law : IsRead levels (command_tree us c, seen us u) = subst (λ (r : Reading). IfOk r (IsRead levels)) given all in
-        subst (λ n. IsRead n (command_tree us c, seen us u)) l law
+        let all : IfOk (read_sexp names (scopes_in ts st.scopes) levels bytes sexp (seen ts st)) (IsRead levels bytes) = read_gives levels bytes names (scopes_in ts st.scopes) (seen ts st) sexp in
+        let law : IsRead levels bytes (command_tree us c, seen us u) = subst (λ (r : Reading). IfOk r (IsRead levels bytes)) given all in
+        subst (λ n. IsRead n bytes (command_tree us c, seen us u)) l law
 
     -- it is lawful
     pub taken_lawful : IsLawful (length old.levels) (command_tree us c)
@@ -65,18 +68,34 @@ module _ (names : Names) (bytes : List ℕ) (sexp : Sexp) (ts : List Tree) (old 
     pub taken_new : IsNew (symbols_in us u.symbols) (command_tree us c)
     taken_new = read_law.new
 
+    -- its terms, with those that count beside them
+    abbrev held : Test ⊤
+    held = limited (start_of sexp) (terms_of (command_tree us c) ++ trees_of us u.bound)
+
     -- what is in force behind it
-    pub taken_read : (vs : List Tree) (mid new : Symbols) → mid.state.symbols ≡ u.symbols → mid.levels ≡ old.levels → in_force vs new ≡ changed (command_tree us c) (in_force us mid) → Extends us vs → IsCommandIn us c
+    abbrev behind_it : Result (CommandTree × InForce) ScriptError
+    behind_it = Ok (command_tree us c, changed (command_tree us c) (record { symbols = symbols_in us u.symbols; levels = old.levels }))
+
+    -- a term is too deep
+    pub taken_deep : (vs : List Tree) (new : Symbols) (e : ReadError) (answer : Result Command ReadError) → IsErrAnd answer (λ told. told ≡ e) → Refuses e held → Reads vs new answer (read_command names bytes sexp (in_force ts old))
+    taken_deep vs new e (Ok d) told h = absurd told
+    taken_deep vs new e (Err d) told h =
+        subst (λ x. Refuses x (read_command names bytes sexp (in_force ts old))) (sym told)
+        (subst (Refuses e) (sym (ap (settled (start_of sexp) old.levels) (sym same ∙ given))) (refuses_and e held (λ _. behind_it) h))
+
+    -- what is in force behind it
+    pub taken_read : (vs : List Tree) (mid new : Symbols) → mid.state.symbols ≡ u.symbols → mid.levels ≡ old.levels → held ≡ Ok tt → in_force vs new ≡ changed (command_tree us c) (in_force us mid) → Extends us vs → HasTerms us c
         → read_command names bytes sexp (in_force ts old) ≡ Ok (command_tree vs c, in_force vs new)
-    taken_read vs mid new ms ml is e has =
+    taken_read vs mid new ms ml kept is e has =
         let middle : in_force us mid ≡ record { symbols = symbols_in us u.symbols; levels = old.levels } = λ i. record { symbols = symbols_in us (ms i); levels = ml i } in
-        ap (settled old.levels) (sym same ∙ given)
+        ap (settled (start_of sexp) old.levels) (sym same ∙ given)
+        ∙ ap (λ r. and r (λ _. behind_it)) kept
         ∙ (λ i. Ok (sym (command_tree_extends us vs c e has) i, (sym (is ∙ ap (changed (command_tree us c)) middle)) i))
 
 -- ---- what stands at a place
 module _ (names : Names) (bytes : List ℕ) (s : InForce) (sexp : Sexp) (end place : ℕ) (is : place ≡ start_of sexp) where
   -- a command
-  pub found_command : (us : List Tree) (new : Symbols) (c : Command) → read_command names bytes sexp s ≡ Ok (command_tree us c, in_force us new) → IsCommandIn us c
+  pub found_command : (us : List Tree) (new : Symbols) (c : Command) → read_command names bytes sexp s ≡ Ok (command_tree us c, in_force us new) → HasTerms us c
       → IsFound us new (command_at names bytes s sexp end) (found.Goes (record { command = c; place = place }) end)
   found_command us new c given has =
       (ap (goes_to (start_of sexp) end) given ∙ ap (λ p. goes_to p end (Ok (command_tree us c, in_force us new))) (sym is), has)

@@ -1,8 +1,9 @@
 -- What calls answer for commands; want of memory is free.
-use Rattle.std.specs.Prelude.{◌≡◌, ⊤, ℕ, List, All, Option, Result, Ok, Err}
+use Rattle.std.specs.Prelude.{◌≡◌, ◌≤◌, ⊤, ℕ, List, length, All, Option, Result, Ok, Err}
 use Rattle.qterm.specs.declared.name.Sort.TheVariants.{Bool}
 use Rattle.qterm.specs.Tree.{Tree}
-use Rattle.qterm.specs.Store.{Has, HasSort}
+use Rattle.qterm.specs.Store.{Has, HasSort, tree_at}
+use Rattle.tac_cert.specs.Depth.{depth}
 use Rattle.strat_text.specs.Given.{narrow}
 use Rattle.smt_words.specs.declared.command.Command.{Command}
 use Rattle.smt_words.specs.declared.command.Command.TheVariants.{Assert, GetValue}
@@ -15,6 +16,7 @@ use Rattle.smt_command.specs.declared.symbols.Symbols.{Symbols}
 use Rattle.smt_command.specs.declared.reading.Found.{Found}
 use Rattle.smt_command.specs.declared.reading.Found.TheVariants as found
 use Rattle.smt_command.specs.Change.{InForce, in_force}
+use Rattle.smt_command.specs.Limits.{most_depth}
 use Rattle.smt_command.specs.Script.{First, Ends, Goes}
 
 -- the answer of a test, as it is seen
@@ -37,12 +39,22 @@ abbrev pub AreAsked : List Tree → List Asked → Type 0
 AreAsked ts asked = All (λ a. Has ts a.term) asked
 
 -- the terms of a command are in the store, and an asserted one is a formula
-abbrev pub IsCommandIn : List Tree → Command → Type 0
-IsCommandIn ts (Assert id) = HasSort Bool ts id
-IsCommandIn ts (GetValue asked) = AreAsked ts asked
-IsCommandIn ts other = ⊤
+abbrev pub HasTerms : List Tree → Command → Type 0
+HasTerms ts (Assert id) = HasSort Bool ts id
+HasTerms ts (GetValue asked) = AreAsked ts asked
+HasTerms ts other = ⊤
+
+-- an asked term stands in the bytes
+abbrev pub IsSpanIn : List ℕ → Asked → Type 0
+IsSpanIn bytes a = (a.start ≤ a.end) × (a.end ≤ length bytes)
+
+-- The terms of a command are in the store: an asserted one is a formula, no deeper than may be, and asked ones stand in the bytes.
+abbrev pub IsCommandIn : List Tree → List ℕ → Command → Type 0
+IsCommandIn ts bytes (Assert id) = HasSort Bool ts id × (depth (tree_at ts id) ≤ most_depth)
+IsCommandIn ts bytes (GetValue asked) = AreAsked ts asked × All (IsSpanIn bytes) asked
+IsCommandIn ts bytes other = ⊤
 
 -- what stands at a place, with what is in force behind it
 abbrev pub IsFound : List Tree → Symbols → First → Found → Type 0
 IsFound ts s first (found.Ends fault) = first ≡ Ends fault
-IsFound ts s first (found.Goes placed end) = (first ≡ Goes (placed_tree ts placed) end (in_force ts s)) × IsCommandIn ts placed.command
+IsFound ts s first (found.Goes placed end) = (first ≡ Goes (placed_tree ts placed) end (in_force ts s)) × HasTerms ts placed.command

@@ -2,6 +2,7 @@ pub mod Levels
 pub mod Change
 pub mod Reading
 pub mod Kinds
+pub mod Limits
 pub mod Terms
 pub mod Given
 pub mod Laws

@@ -1,6 +1,6 @@
 -- Commands with terms, and a command by its word: first the word, then the arguments from left to right, then their
 -- number and kind.
-use Rattle.std.specs.Prelude.{ℕ, if◌then◌else◌, List, [], ◌∷◌, ◌++◌, length, Option, None, Some, Result, Ok, Err, ⊤}
+use Rattle.std.specs.Prelude.{ℕ, min, if◌then◌else◌, List, [], ◌∷◌, ◌++◌, length, Option, None, Some, Result, Ok, Err, ⊤}
 use Rattle.sexp_read.specs.declared.sexp.Sexp.{Sexp, out-Sexp}
 use Rattle.sexp_read.specs.declared.sexp.Sexp.TheOpen.{Sexp-F}
 use Rattle.sexp_read.specs.Atoms.{Layer, start_of, end_of}
@@ -26,6 +26,7 @@ use Rattle.smt_command.specs.declared.kind.Kind.{Kind}
 use Rattle.smt_command.specs.declared.kind.Kind.TheVariants as kind
 use Rattle.smt_command.specs.Kinds.{kind_of}
 use Rattle.smt_command.specs.Change.{InForce, changed}
+use Rattle.smt_command.specs.Limits.{terms_of, limited}
 use Rattle.smt_command.specs.Reading.{Test, and, bad, nothing_more, read_sort, plain_command}
 
 -- a test that leaves the state
@@ -49,10 +50,14 @@ no_parameters at (atom is text place) = bad at
 no_parameters at (list none place) = Ok tt
 no_parameters at (list (more form forms) place) = Err (refusal NotYet at)
 
+-- the term counts
+abbrev pub counted : {A : Type 0} → Tree → A → Reader A
+counted t a s = Ok (a, record { symbols = s.symbols; bound = s.bound ++ t ∷ [] })
+
 -- a term of the sort and nothing behind it: the name, which has to be new still, stands for the term
 abbrev pub defined : ℕ → Form → Sort → ℕ → Forms → Tree → Reader CommandTree
 defined at name s place rest t =
-    if same_sort (sort_of t) s then tested (nothing_more at rest) (λ _. after (named at t name) (λ _. done Define)) else refused BadSort place
+    if same_sort (sort_of t) s then tested (nothing_more at rest) (λ _. after (named at t name) (λ _. counted t Define)) else refused BadSort place
 
 -- what stands behind the sort
 abbrev pub meant : Scopes → ℕ → Form → Sort → Forms → Reader CommandTree
@@ -78,14 +83,21 @@ definition scopes at none s = refused BadShape at s
 definition scopes at (more name rest) s = tested (is_new s.symbols at name) (λ _. behind_name scopes at name rest) s
 
 -- ---- questions
+-- the place behind an s-expression, and the one where it begins, as far as these lie within the bytes
+abbrev pub end_within : List ℕ → Sexp → ℕ
+end_within bytes sexp = min (end_of sexp) (length bytes)
+
+abbrev pub start_within : List ℕ → Sexp → ℕ
+start_within bytes sexp = min (start_of sexp) (end_within bytes sexp)
+
 -- a term with the place where it begins and that behind it
-abbrev pub asked : Sexp → Tree → AskedTree
-asked sexp t = record { term = t; start = start_of sexp; end = end_of sexp }
+abbrev pub asked : List ℕ → Sexp → Tree → AskedTree
+asked bytes sexp t = record { term = t; start = start_within bytes sexp; end = end_within bytes sexp }
 
 -- one more term behind those so far, if it may be one
 abbrev pub asked_more : Scopes → List ℕ → Sexp → List AskedTree → Reader (List AskedTree)
 asked_more scopes bytes sexp front =
-    if may_be_term (form_of bytes sexp) then after (read_term scopes (form_of bytes sexp) 0) (λ t. done (front ++ asked sexp t ∷ [])) else done front
+    if may_be_term (form_of bytes sexp) then after (read_term scopes (form_of bytes sexp) 0) (λ t. done (front ++ asked bytes sexp t ∷ [])) else done front
 
 -- the terms of a row behind those so far
 unfoldable pub asked_from : Scopes → List ℕ → List Sexp → List AskedTree → Reader (List AskedTree)
@@ -146,11 +158,11 @@ read_layer names scopes levels bytes (Sexp-F.List items start end) = read_items 
 unfoldable pub read_sexp : Names → Scopes → ℕ → List ℕ → Sexp → Reader CommandTree
 read_sexp names scopes levels bytes sexp = read_layer names scopes levels bytes (out-Sexp sexp)
 
--- what is read with what is in force behind it
-abbrev pub settled : List ℕ → Result (CommandTree × State) ScriptError → Result (CommandTree × InForce) ScriptError
-settled levels (Ok p) = Ok (p.0, changed p.0 (record { symbols = p.1.symbols; levels = levels }))
-settled levels (Err e) = Err e
+-- what is read at a place, if it keeps the limits, with what is in force behind it
+abbrev pub settled : ℕ → List ℕ → Result (CommandTree × State) ScriptError → Result (CommandTree × InForce) ScriptError
+settled at levels (Ok p) = and (limited at (terms_of p.0 ++ p.1.bound)) (λ _. Ok (p.0, changed p.0 (record { symbols = p.1.symbols; levels = levels })))
+settled at levels (Err e) = Err e
 
 -- The command that an s-expression spells, and what is in force behind it, or the first refusal.
 abbrev pub read_command : Names → List ℕ → Sexp → InForce → Result (CommandTree × InForce) ScriptError
-read_command names bytes sexp s = settled s.levels (read_sexp names [] (length s.levels) bytes sexp (record { symbols = s.symbols; bound = [] }))
+read_command names bytes sexp s = settled (start_of sexp) s.levels (read_sexp names [] (length s.levels) bytes sexp (record { symbols = s.symbols; bound = [] }))

@@ -6,7 +6,7 @@ ghost use Rattle.strat_text.specs.Form.{forms_of};
 ghost use Rattle.smt_theory.specs.Sorts.{same_sort};
 ghost use Rattle.smt_words.specs.Command.{command_tree};
 ghost use Rattle.smt_names.specs.Given.{IsIn, Gives, Goes, scopes_in, seen};
-ghost use Rattle.smt_command.specs.Given.{Tells, IsCommandIn};
+ghost use Rattle.smt_command.specs.Given.{Tells, HasTerms};
 ghost use Rattle.smt_command.specs.Terms as spec;
 
 use crate::argument::{bad, nothing};
@@ -28,7 +28,7 @@ pub(crate) fn read_assertion(
 ) -> Result<Command, ReadError>
     requires there { IsIn store.old state.old }
     ensures read { Gives (command_tree store.new) store.new state.new result (spec.assertion (scopes_in store.old state.old.scopes) at (forms_of bytes.now args.now) (seen store.old state.old)) }
-    ensures in_store { IfOk result (IsCommandIn store.new) }
+    ensures in_store { IfOk result (HasTerms store.new) }
     ensures goes { Goes store.old state.old store.new state.new }
 {
     match args {
@@ -51,7 +51,7 @@ fn formula(
 ) -> Result<Command, ReadError>
     requires has { Has store.now id }
     ensures read { Tells (command_tree store.now) result (spec.formula at place (forms_of bytes.now rest.now) (tree_at store.now id)) }
-    ensures in_store { IfOk result (IsCommandIn store.now) }
+    ensures in_store { IfOk result (HasTerms store.now) }
 {
     if !is_bool(store.sort(id)) {
         return Err(refused(What::BadSort, place));

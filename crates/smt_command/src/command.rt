@@ -6,7 +6,7 @@ ghost use Rattle.strat_text.specs.Form.{forms_of};
 ghost use Rattle.smt_words.specs.Command.{command_tree};
 ghost use Rattle.smt_names.specs.Given.{IsIn, Gives, Goes, scopes_in, seen};
 ghost use Rattle.smt_names.specs.Table.{symbols_in};
-ghost use Rattle.smt_command.specs.Given.{Tells, IsCommandIn};
+ghost use Rattle.smt_command.specs.Given.{Tells, HasTerms};
 ghost use Rattle.smt_command.specs.Reading as plain_spec;
 ghost use Rattle.smt_command.specs.Terms as spec;
 
@@ -41,7 +41,7 @@ pub(crate) fn read_sexp(
     requires few { levels ≤ 65536 }
     requires there { IsIn store.old state.old }
     ensures read { Gives (command_tree store.new) store.new state.new result (spec.read_sexp (option_copied reducers.entry) (scopes_in store.old state.old.scopes) levels bytes.now sexp.now (seen store.old state.old)) }
-    ensures in_store { IfOk result (IsCommandIn store.new) }
+    ensures in_store { IfOk result (HasTerms store.new) }
     ensures goes { Goes store.old state.old store.new state.new }
 {
     match sexp {
@@ -75,7 +75,7 @@ fn read_items(
     requires few { levels ≤ 65536 }
     requires there { IsIn store.old state.old }
     ensures read { Gives (command_tree store.new) store.new state.new result (spec.read_items (option_copied reducers.entry) (scopes_in store.old state.old.scopes) levels bytes.now at items.now (seen store.old state.old)) }
-    ensures in_store { IfOk result (IsCommandIn store.new) }
+    ensures in_store { IfOk result (HasTerms store.new) }
     ensures goes { Goes store.old state.old store.new state.new }
 {
     match items {
@@ -107,7 +107,7 @@ fn by_word(
     requires few { levels ≤ 65536 }
     requires there { IsIn store.old state.old }
     ensures read { Gives (command_tree store.new) store.new state.new result (spec.command_by (option_copied reducers.entry) (scopes_in store.old state.old.scopes) levels bytes.now word at args.now (seen store.old state.old)) }
-    ensures in_store { IfOk result (IsCommandIn store.new) }
+    ensures in_store { IfOk result (HasTerms store.new) }
     ensures goes { Goes store.old state.old store.new state.new }
 {
     match kind_of(word) {

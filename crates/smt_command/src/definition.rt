@@ -1,5 +1,5 @@
 //! Definitions of names without parameters.
-ghost use Rattle.std.specs.Prelude.{◌≡◌, List, IfOk};
+ghost use Rattle.std.specs.Prelude.{◌≡◌, [], ◌∷◌, ◌++◌, List, IfOk, OnOk, OnErr};
 ghost use Rattle.qterm.specs.Tree.{Tree};
 ghost use Rattle.qterm.specs.Store.{Has, tree_at};
 ghost use Rattle.strat_text.specs.Form.{form_of, forms_of};
@@ -7,7 +7,7 @@ ghost use Rattle.smt_theory.specs.Sorts as sorts;
 ghost use Rattle.smt_words.specs.Command.{command_tree};
 ghost use Rattle.smt_names.specs.Table.{symbols_in};
 ghost use Rattle.smt_names.specs.Given.{IsIn, Gives, Goes, scopes_in, seen};
-ghost use Rattle.smt_command.specs.Given.{Tells, IsCommandIn};
+ghost use Rattle.smt_command.specs.Given.{Tells, HasTerms};
 ghost use Rattle.smt_command.specs.Terms as spec;
 
 use crate::argument::{bad, nothing};
@@ -17,7 +17,7 @@ use sexp_read::Sexp;
 use smt_names::{State, Table, name_term, new_name, place};
 use smt_term::read_term;
 use smt_words::{Command, ReadError, What, refused};
-use std::alloc::Global;
+use std::alloc::{AllocError, Global};
 
 /// `(define-fun NAME () SORT T)`: from here on the name stands for the term.
 pub(crate) fn read_definition(
@@ -30,7 +30,7 @@ pub(crate) fn read_definition(
 ) -> Result<Command, ReadError>
     requires there { IsIn store.old state.old }
     ensures read { Gives (command_tree store.new) store.new state.new result (spec.definition (scopes_in store.old state.old.scopes) at (forms_of bytes.now args.now) (seen store.old state.old)) }
-    ensures in_store { IfOk result (IsCommandIn store.new) }
+    ensures in_store { IfOk result (HasTerms store.new) }
     ensures goes { Goes store.old state.old store.new state.new }
 {
     match args {
@@ -64,7 +64,7 @@ fn behind_name(
 ) -> Result<Command, ReadError>
     requires there { IsIn store.old state.old }
     ensures read { Gives (command_tree store.new) store.new state.new result (spec.behind_name (scopes_in store.old state.old.scopes) at (form_of bytes.now name.now) (forms_of bytes.now rest.now) (seen store.old state.old)) }
-    ensures in_store { IfOk result (IsCommandIn store.new) }
+    ensures in_store { IfOk result (HasTerms store.new) }
     ensures goes { Goes store.old state.old store.new state.new }
 {
     match rest {
@@ -102,7 +102,7 @@ fn sorted(
 ) -> Result<Command, ReadError>
     requires there { IsIn store.old state.old }
     ensures read { Gives (command_tree store.new) store.new state.new result (spec.sorted (scopes_in store.old state.old.scopes) at (form_of bytes.now name.now) (forms_of bytes.now rest.now) (seen store.old state.old)) }
-    ensures in_store { IfOk result (IsCommandIn store.new) }
+    ensures in_store { IfOk result (HasTerms store.new) }
     ensures goes { Goes store.old state.old store.new state.new }
 {
     match rest {
@@ -127,7 +127,7 @@ fn meant(
 ) -> Result<Command, ReadError>
     requires there { IsIn store.old state.old }
     ensures read { Gives (command_tree store.new) store.new state.new result (spec.meant (scopes_in store.old state.old.scopes) at (form_of bytes.now name.now) sort (forms_of bytes.now rest.now) (seen store.old state.old)) }
-    ensures in_store { IfOk result (IsCommandIn store.new) }
+    ensures in_store { IfOk result (HasTerms store.new) }
     ensures goes { Goes store.old state.old store.new state.new }
 {
     match rest {
@@ -156,7 +156,7 @@ fn defined(
     requires there { IsIn store.now state.old }
     requires has { Has store.now id }
     ensures read { Gives (command_tree store.now) store.now state.new result (spec.defined at (form_of bytes.now name.now) sort place (forms_of bytes.now rest.now) (tree_at store.now id) (seen store.now state.old)) }
-    ensures in_store { IfOk result (IsCommandIn store.now) }
+    ensures in_store { IfOk result (HasTerms store.now) }
     ensures goes { Goes store.now state.old store.now state.new }
 {
     if !same_sort(store.sort(id), sort) {
@@ -164,7 +164,18 @@ fn defined(
     }
     nothing(bytes, rest, at)?;
     name_term(alloc, bytes, name, at, id, state)?;
+    count(id, state)?;
     Ok(Command::Define)
+}
+
+/// The term counts from here on.
+fn count(id: TermId, state: &mut State) -> Result<(), AllocError>
+    ensures counted { OnOk result (state.new ≡ record state.old { bound = state.old.bound ++ id ∷ [] }) }
+    ensures err { OnErr result (state.new ≡ state.old) }
+    ensures goes { (ts : List Tree) → Has ts id → IsIn ts state.old → Goes ts state.old ts state.new }
+{
+    state.bound.push(id)?;
+    Ok(())
 }
 
 fn same_sort(a: Sort, b: Sort) -> bool

@@ -12,6 +12,7 @@ mod declaration;
 mod definition;
 mod kind;
 mod levels;
+mod limits;
 mod option;
 mod pushing;
 mod question;
@@ -21,6 +22,7 @@ mod symbols;
 mod using;
 
 pub use levels::Levels;
+pub use limits::DEPTH;
 pub use pushing::LEVELS;
 pub use read::read_command;
 pub use reading::commands;

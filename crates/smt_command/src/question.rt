@@ -4,7 +4,7 @@ ghost use Rattle.qterm.specs.Tree.{Tree};
 ghost use Rattle.strat_text.specs.Form.{forms_of};
 ghost use Rattle.smt_words.specs.Command.{command_tree, asked_tree};
 ghost use Rattle.smt_names.specs.Given.{IsIn, Gives, Goes, scopes_in, seen};
-ghost use Rattle.smt_command.specs.Given.{Tells, IsCommandIn, AreAsked};
+ghost use Rattle.smt_command.specs.Given.{Tells, HasTerms, AreAsked};
 ghost use Rattle.smt_command.specs.Terms as spec;
 
 use crate::argument::{bad, nothing};
@@ -27,7 +27,7 @@ pub(crate) fn read_question(
 ) -> Result<Command, ReadError>
     requires there { IsIn store.old state.old }
     ensures read { Gives (command_tree store.new) store.new state.new result (spec.question (scopes_in store.old state.old.scopes) bytes.now at args.now (seen store.old state.old)) }
-    ensures in_store { IfOk result (IsCommandIn store.new) }
+    ensures in_store { IfOk result (HasTerms store.new) }
     ensures goes { Goes store.old state.old store.new state.new }
 {
     match args {
@@ -63,7 +63,7 @@ fn asked_row(
 ) -> Result<Command, ReadError>
     requires there { IsIn store.old state.old }
     ensures read { Gives (command_tree store.new) store.new state.new result (spec.asked_row (scopes_in store.old state.old.scopes) bytes.now at place (forms_of bytes.now rest.now) items.now (seen store.old state.old)) }
-    ensures in_store { IfOk result (IsCommandIn store.new) }
+    ensures in_store { IfOk result (HasTerms store.new) }
     ensures goes { Goes store.old state.old store.new state.new }
 {
     match items {
@@ -85,7 +85,7 @@ fn all_asked(
     asked: AskedTerms,
 ) -> Result<Command, ReadError>
     ensures read { (ts : List Tree) → Tells (command_tree ts) result (spec.all_asked at place (forms_of bytes.now items.now) (forms_of bytes.now rest.now) (map (asked_tree ts) asked)) }
-    ensures in_store { (ts : List Tree) → AreAsked ts asked → IfOk result (IsCommandIn ts) }
+    ensures in_store { (ts : List Tree) → AreAsked ts asked → IfOk result (HasTerms ts) }
 {
     if !may_be_terms(bytes, items) {
         return Err(refused(What::BadShape, place));
@@ -134,10 +134,24 @@ fn ask(
         return Ok(());
     }
     let term = read_term(alloc, bytes, sexp, 0, state, store)?;
-    let start = sexp.start();
-    let end = sexp.end();
+    let start = start_within(bytes, sexp);
+    let end = end_within(bytes, sexp);
     push(asked, Asked { term, start, end })?;
     Ok(())
+}
+
+/// The place behind an s-expression, as far as it lies within the bytes.
+fn end_within(bytes: &[u8], sexp: &Sexp) -> usize
+    ensures { result ≡ spec.end_within bytes.now sexp.now }
+{
+    sexp.end().min(bytes.len())
+}
+
+/// The place of the first byte of an s-expression, as far as it lies within the bytes.
+fn start_within(bytes: &[u8], sexp: &Sexp) -> usize
+    ensures { result ≡ spec.start_within bytes.now sexp.now }
+{
+    sexp.start().min(end_within(bytes, sexp))
 }
 
 /// Puts a term behind the others.

@@ -1,17 +1,19 @@
 //! Commands with what they change.
-ghost use Rattle.std.specs.Prelude.{◌≡◌, ◌≤◌, length, OnOk, OnErr, IfOk};
+ghost use Rattle.std.specs.Prelude.{◌≡◌, ◌≤◌, ◌++◌, All, length, OnOk, OnErr, IfOk};
 ghost use Rattle.std.specs.Option.{option_copied};
-ghost use Rattle.qterm.specs.Store.{Extends};
+ghost use Rattle.qterm.specs.Store.{Extends, Has, trees_of};
 ghost use Rattle.smt_words.specs.Command.{command_tree};
 ghost use Rattle.smt_names.specs.Table.{AreThere, symbols_in};
 ghost use Rattle.smt_names.specs.Given.{IsFront};
 ghost use Rattle.smt_command.specs.Change as change_spec;
 ghost use Rattle.smt_command.specs.Change.{in_force};
-ghost use Rattle.smt_command.specs.Given.{IsCommandIn, Reads};
+ghost use Rattle.smt_command.specs.Given.{HasTerms, Reads, Tells};
 ghost use Rattle.smt_command.specs.Laws.{IsLawful, IsNew};
+ghost use Rattle.smt_command.specs.Limits as limits;
 ghost use Rattle.smt_command.specs.Terms as spec;
 
 use crate::command::read_sexp;
+use crate::limits::limited;
 use crate::symbols::Symbols;
 use qterm::Store;
 use sexp_read::Sexp;
@@ -36,7 +38,7 @@ pub fn read_command(
     requires there { AreThere store.old symbols.old.state.symbols }
     ensures read { Reads store.new symbols.new result (spec.read_command (option_copied reducers.entry) bytes.now sexp.now (in_force store.old symbols.old)) }
     ensures unchanged { OnErr result (in_force store.new symbols.new ≡ in_force store.old symbols.old) }
-    ensures in_store { IfOk result (IsCommandIn store.new) }
+    ensures in_store { IfOk result (HasTerms store.new) }
     ensures few { length symbols.new.levels ≤ 65536 }
     ensures there { AreThere store.new symbols.new.state.symbols }
     ensures extends { Extends store.old store.new }
@@ -65,7 +67,7 @@ fn taken(
     ensures read { Reads store.new symbols.new result (spec.read_command (option_copied reducers.entry) bytes.now sexp.now (in_force store.old symbols.old)) }
     ensures front { OnErr result (IsFront symbols.old.state.symbols symbols.new.state.symbols) }
     ensures levels { OnErr result (symbols.new.levels ≡ symbols.old.levels) }
-    ensures in_store { IfOk result (IsCommandIn store.new) }
+    ensures in_store { IfOk result (HasTerms store.new) }
     ensures few { length symbols.new.levels ≤ 65536 }
     ensures there { AreThere store.new symbols.new.state.symbols }
     ensures extends { Extends store.old store.new }
@@ -81,8 +83,35 @@ fn taken(
         &mut symbols.state,
         store,
     )?;
-    change(alloc, &command, symbols, store)?;
+    settle(alloc, &command, sexp.start(), symbols, store)?;
     Ok(command)
+}
+
+/// Tests the limits on the terms of a command at a place, and then makes the change.
+fn settle(
+    alloc: Global,
+    command: &Command,
+    at: usize,
+    symbols: &mut Symbols,
+    store: &mut Store,
+) -> Result<(), ReadError>
+    requires few { length symbols.old.levels ≤ 65536 }
+    requires there { AreThere store.old symbols.old.state.symbols }
+    requires has { HasTerms store.old command.now }
+    requires bound { All (Has store.old) symbols.old.state.bound }
+    requires lawful { IsLawful (length symbols.old.levels) (command_tree store.old command.now) }
+    requires new { IsNew (symbols_in store.old symbols.old.state.symbols) (command_tree store.old command.now) }
+    ensures settled { Tells (λ done. done) result (limits.limited at (limits.terms_of (command_tree store.old command.now) ++ trees_of store.old symbols.old.state.bound)) }
+    ensures changed { OnOk result (in_force store.new symbols.new ≡ change_spec.changed (command_tree store.old command.now) (in_force store.old symbols.old)) }
+    ensures symbols { OnErr result (symbols.new.state.symbols ≡ symbols.old.state.symbols) }
+    ensures levels { OnErr result (symbols.new.levels ≡ symbols.old.levels) }
+    ensures few { length symbols.new.levels ≤ 65536 }
+    ensures there { AreThere store.new symbols.new.state.symbols }
+    ensures extends { Extends store.old store.new }
+{
+    limited(alloc, command, &symbols.state.bound, at, store)?;
+    change(alloc, command, symbols, store)?;
+    Ok(())
 }
 
 /// What a command changes, whose terms and definitions are read.

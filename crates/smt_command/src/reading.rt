@@ -6,7 +6,7 @@ ghost use Rattle.qterm.specs.Store.{Extends};
 ghost use Rattle.smt_words.specs.Command.{command_tree, script_tree};
 ghost use Rattle.smt_names.specs.Table.{AreThere};
 ghost use Rattle.smt_command.specs.Change.{in_force};
-ghost use Rattle.smt_command.specs.Given.{IsCommandIn, IsFound};
+ghost use Rattle.smt_command.specs.Given.{HasTerms, IsCommandIn, IsFound};
 ghost use Rattle.smt_command.specs.Laws.{AreLawful};
 ghost use Rattle.smt_command.specs.Script as spec;
 
@@ -27,7 +27,7 @@ pub(crate) enum Found {
 }
 
 /// The commands that the bytes spell, up to the first `(exit)`, the end, or the first fault, with their terms in the store. Where
-/// names of reducers are given, a strategy may name these alone.
+/// names of reducers are given, a strategy may name these alone. No term is deeper than 1,000.
 ///
 /// The terms of the store stay. After want of memory there may be more than before.
 pub fn commands(
@@ -37,8 +37,8 @@ pub fn commands(
     reducers: Option<&[ReducerName]>,
 ) -> Result<Script, AllocError>
     ensures script { IfOk result (λ script. script_tree store.new script ≡ spec.script_of (option_copied reducers.entry) bytes.now) }
-    ensures within { IfOk result (λ script. All (λ placed. IsCommandIn store.new placed.command) script.commands) }
-    ensures lawful { AreLawful 0 (spec.script_of (option_copied reducers.entry) bytes.now).commands }
+    ensures within { IfOk result (λ script. All (λ placed. IsCommandIn store.new bytes.now placed.command) script.commands) }
+    ensures lawful { AreLawful bytes.now 0 (spec.script_of (option_copied reducers.entry) bytes.now).commands }
     ensures store { Extends store.old store.new }
 {
     read(alloc, bytes, store, reducers)
@@ -52,7 +52,7 @@ fn read(
     reducers: Option<&[ReducerName]>,
 ) -> Result<Script, AllocError>
     ensures script { IfOk result (λ script. script_tree store.new script ≡ spec.script_of (option_copied reducers.entry) bytes.now) }
-    ensures within { IfOk result (λ script. All (λ placed. IsCommandIn store.new placed.command) script.commands) }
+    ensures within { IfOk result (λ script. All (λ placed. HasTerms store.new placed.command) script.commands) }
     ensures store { Extends store.old store.new }
 {
     let mut commands = Items::new(alloc);
