@@ -1,0 +1,4 @@
+pub mod Heads
+pub mod Joining
+pub mod Listing
+pub mod Pairing
