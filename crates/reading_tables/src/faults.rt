@@ -147,8 +147,8 @@ fn faults_of_texts_and_symbols(rt: HostRuntime) -> Result<(), Fail> {
     Ok(())
 }
 
-/// Faults of shapes, sorts, products, sums, levels and strategies.
-const SHAPES: [(&[u8], &[u8], What); 121] = [
+/// Faults of commands with other arguments, in the same form.
+const ARGUMENTS: [(&[u8], &[u8], What); 52] = [
     // A command with other arguments
     (b"", b"(check-sat 1)", What::BadShape),
     (b"", b"(get-model x)", What::BadShape),
@@ -202,6 +202,19 @@ const SHAPES: [(&[u8], &[u8], What); 121] = [
     (b"", b"(check-sat-using)", What::BadShape),
     (b"", b"(check-sat-using sat sat)", What::BadShape),
     (b"", b"(apply)", What::BadShape),
+];
+
+#[test]
+fn faults_of_arguments(rt: HostRuntime) -> Result<(), Fail> {
+    let alloc = rt.alloc();
+    for (before, from, what) in ARGUMENTS {
+        assert!(rt; is_told(alloc, before, from, what)?);
+    }
+    Ok(())
+}
+
+/// The same, of terms, bindings and annotations of another shape.
+const SHAPES: [(&[u8], &[u8], What); 33] = [
     // A term, a let, a binding, a list of bindings, an annotation
     (b"(assert ", b"(not p q))", What::BadShape),
     (b"(assert ", b"(not))", What::BadShape),
@@ -236,6 +249,19 @@ const SHAPES: [(&[u8], &[u8], What); 121] = [
     (b"(assert ", b"(! p :named |a\nb|))", What::BadShape),
     (b"(assert ", b"(! p a))", What::BadShape),
     (b"(assert ", b"(! p :weight 1 2))", What::BadShape),
+];
+
+#[test]
+fn faults_of_shapes(rt: HostRuntime) -> Result<(), Fail> {
+    let alloc = rt.alloc();
+    for (before, from, what) in SHAPES {
+        assert!(rt; is_told(alloc, before, from, what)?);
+    }
+    Ok(())
+}
+
+/// The same, of sorts, numbers, levels and strategies.
+const SORTS: [(&[u8], &[u8], What); 36] = [
     // Sorts
     (b"(assert ", b"x)", What::BadSort),
     (b"(assert ", b"(+ x 1))", What::BadSort),
@@ -315,9 +341,9 @@ const SHAPES: [(&[u8], &[u8], What); 121] = [
 ];
 
 #[test]
-fn faults_of_shapes_and_sorts(rt: HostRuntime) -> Result<(), Fail> {
+fn faults_of_sorts_and_levels(rt: HostRuntime) -> Result<(), Fail> {
     let alloc = rt.alloc();
-    for (before, from, what) in SHAPES {
+    for (before, from, what) in SORTS {
         assert!(rt; is_told(alloc, before, from, what)?);
     }
     Ok(())
@@ -362,6 +388,7 @@ fn places_of_faults(rt: HostRuntime) -> Result<(), Fail> {
         let fault = fault_of(alloc, script)?;
         assert!(rt; fault.is_some());
         if let Some(error) = fault {
+            assert!(rt; error.place <= script.len());
             assert_eq!(rt; line_column(script, error.place), (line, column));
         }
     }

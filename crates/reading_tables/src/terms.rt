@@ -4,7 +4,7 @@ use crate::scripts::last_text;
 use std::test::Fail;
 
 /// A command behind the four declarations, and the text of its plain term.
-const PLAIN: [(&[u8], &[u8]); 89] = [
+const SUMS: [(&[u8], &[u8]); 35] = [
     // Constants, names and numerals
     (b"(assert true)", b"true"),
     (b"(assert false)", b"false"),
@@ -51,6 +51,19 @@ const PLAIN: [(&[u8], &[u8]); 89] = [
         b"(get-value ((* 0 170141183460469231731687303715884105727 170141183460469231731687303715884105727)))",
         b"0",
     ),
+];
+
+#[test]
+fn constants_and_sums(rt: HostRuntime) -> Result<(), Fail> {
+    let alloc = rt.alloc();
+    for (text, want) in SUMS {
+        assert_eq!(rt; last_text(alloc, text)?.as_slice(), want);
+    }
+    Ok(())
+}
+
+/// The same, of atoms, chains and connectives.
+const CHAINS: [(&[u8], &[u8]); 33] = [
     // Atoms and chains
     (b"(assert (<= x y))", b"(<= x y)"),
     (b"(assert (< x y))", b"(not (<= y x))"),
@@ -101,6 +114,19 @@ const PLAIN: [(&[u8], &[u8]); 89] = [
         b"(* 2 (ite true 3 4))",
     ),
     (b"(assert (|and| p q))", b"(and p q)"),
+];
+
+#[test]
+fn chains_and_connectives(rt: HostRuntime) -> Result<(), Fail> {
+    let alloc = rt.alloc();
+    for (text, want) in CHAINS {
+        assert_eq!(rt; last_text(alloc, text)?.as_slice(), want);
+    }
+    Ok(())
+}
+
+/// The same, of names that are bound, given, declared or defined.
+const NAMED: [(&[u8], &[u8]); 21] = [
     // Names bound by let
     (b"(assert (let ((a p)) (and a a)))", b"(and p p)"),
     (b"(assert (let ((x y) (y x)) (<= x y)))", b"(<= y x)"),
@@ -147,9 +173,9 @@ const PLAIN: [(&[u8], &[u8]); 89] = [
 ];
 
 #[test]
-fn plain_terms(rt: HostRuntime) -> Result<(), Fail> {
+fn names_and_strings(rt: HostRuntime) -> Result<(), Fail> {
     let alloc = rt.alloc();
-    for (text, want) in PLAIN {
+    for (text, want) in NAMED {
         assert_eq!(rt; last_text(alloc, text)?.as_slice(), want);
     }
     Ok(())
