@@ -7,7 +7,7 @@ use Rattle.sexp_read.specs.Outside.{TakesFront, TakesPast}
 use Rattle.script_run.specs.declared.top.Ended.{Ended}
 use Rattle.script_run.specs.declared.top.Ended.TheVariants as e
 use Rattle.script_run.specs.declared.top.TheConstants.{MOST}
-use Rattle.script_run.specs.Output.{End}
+use Rattle.script_text.specs.Output.{End}
 use Rattle.script_run.specs.Run.{Ran, ReadWhole, TakesScript}
 
 -- all of it was read

@@ -4,16 +4,21 @@ use Rattle.std.proofs.lemmas.Bool.Decides.{nat_tests}
 use Rattle.std.specs.Io.KnownBytes.{Appends}
 use Rattle.std.proofs.KnownBytes.{Appends-trans, Appends-nil}
 use Rattle.sexp_read.specs.Outside.{AppendsFront, TakesPast}
-use Rattle.smt_script.specs.declared.script.ScriptError.{ScriptError}
-use Rattle.smt_script.specs.Command.{ScriptTree}
-use Rattle.smt_script.specs.Script.{script_of}
+use Rattle.smt_words.specs.declared.error.ScriptError.{ScriptError}
+use Rattle.smt_words.specs.Command.{ScriptTree}
+use Rattle.smt_command.specs.Script.{script_of}
+use Rattle.reducer_iface.specs.Names.{Names}
+use Rattle.answer_text.specs.Errors.{error_line}
+use Rattle.script_text.specs.Answers.{RecordTree}
+use Rattle.script_text.specs.Session.{start}
+use Rattle.script_text.specs.Shown.{fault_line}
+use Rattle.script_text.specs.Output.{End, over, output, end_of, AreRecords}
+use Rattle.script_text.proofs.Reaching.{none_right}
 use Rattle.script_run.specs.declared.top.Ended.{Ended}
 use Rattle.script_run.specs.declared.top.Ended.TheVariants as e
 use Rattle.script_run.specs.declared.top.TheConstants.{MOST}
-use Rattle.script_run.specs.Session.{RecordTree}
-use Rattle.script_run.specs.Output.{End, over, fault_line, start, output, end_of, AreRecords}
-use Rattle.script_run.specs.Run.{Ran, RanOver, RanFrom, too_long, whole_script}
-use Rattle.script_run.proofs.Reaching.{none_right}
+use Rattle.script_run.specs.Steps.{setting}
+use Rattle.script_run.specs.Run.{Ran, RanOver, RanFrom, names_of, too_long, whole_script}
 
 pub ran_after : (ended : Ended) (found : Option ScriptError) (line text whole : List ℕ) (end : End) (old mid new : Option (List ℕ)) (flushed : Option ℕ)
     → Appends old mid text → whole ≡ text ++ line → end ≡ over found → Ran line (over found) mid new flushed ended → Ran whole end old new flushed ended
@@ -24,63 +29,68 @@ ran_after e.WriteFault found line text whole end old mid new flushed w told ends
 ran_after e.ReadFault found line text whole end old mid new flushed w told ends r = r
 ran_after e.Usage found line text whole end old mid new flushed w told ends r = r
 
-pub whole_short : (bytes : List ℕ) → length bytes ≤ MOST → whole_script bytes ≡ script_of bytes
-unfolding whole_script
-whole_short bytes h = let test : nat_lt MOST (length bytes) ≡ false = grind (arith, nat_tests) in rw test refl
+-- the line of a script that is too long, whatever its bytes are
+pub line_too_long : (bytes : List ℕ) → fault_line [] (Some too_long) ≡ fault_line bytes (Some too_long)
+unfolding fault_line error_line
+line_too_long bytes = refl
 
-pub whole_long : (bytes : List ℕ) → MOST < length bytes → whole_script bytes ≡ record { commands = []; fault = Some too_long }
+whole_short : (kinds : Names) (bytes : List ℕ) → length bytes ≤ MOST → whole_script kinds bytes ≡ script_of (names_of kinds) bytes
 unfolding whole_script
-whole_long bytes h = let test : nat_lt MOST (length bytes) ≡ true = grind (arith, nat_tests) in rw test refl
+whole_short kinds bytes h = let test : nat_lt MOST (length bytes) ≡ false = grind (arith, nat_tests) in rw test refl
 
-pub front_none : (text : List ℕ) (old : Option (List ℕ)) → AppendsFront old old text
+whole_long : (kinds : Names) (bytes : List ℕ) → MOST < length bytes → whole_script kinds bytes ≡ record { commands = []; fault = Some too_long }
+unfolding whole_script
+whole_long kinds bytes h = let test : nat_lt MOST (length bytes) ≡ true = grind (arith, nat_tests) in rw test refl
+
+front_none : (text : List ℕ) (old : Option (List ℕ)) → AppendsFront old old text
 front_none text old = ([], text, refl, Appends-nil old)
 
-pub ran_from : (ended : Ended) (left : Option (List ℕ)) (bytes : List ℕ) (journal : List RecordTree) (old new : Option (List ℕ)) (flushed : Option ℕ)
-    → IfSome left (λ all. all ≡ bytes) → AreRecords start (whole_script bytes).commands journal → RanOver bytes (whole_script bytes) journal old new flushed ended
-    → RanFrom left journal old new flushed ended
-ran_from e.Done left bytes journal old new flushed told records ran = (bytes, record { told = told; records = records; ran = ran })
-ran_from e.Fault left bytes journal old new flushed told records ran = (bytes, record { told = told; records = records; ran = ran })
-ran_from e.Memory left bytes journal old new flushed told records ran = (bytes, record { told = told; records = records; ran = ran })
-ran_from e.WriteFault left bytes journal old new flushed told records ran = (bytes, record { told = told; records = records; ran = ran })
-ran_from e.ReadFault left bytes journal old new flushed told records ran = absurd ran
-ran_from e.Usage left bytes journal old new flushed told records ran = absurd ran
+ran_from : (ended : Ended) (kinds : Names) (left : Option (List ℕ)) (bytes : List ℕ) (journal : List RecordTree) (old new : Option (List ℕ)) (flushed : Option ℕ)
+    → IfSome left (λ all. all ≡ bytes) → AreRecords (setting kinds bytes) start (whole_script kinds bytes).commands journal → RanOver kinds bytes (whole_script kinds bytes) journal old new flushed ended
+    → RanFrom kinds left journal old new flushed ended
+ran_from e.Done kinds left bytes journal old new flushed told records ran = (bytes, record { told = told; records = records; ran = ran })
+ran_from e.Fault kinds left bytes journal old new flushed told records ran = (bytes, record { told = told; records = records; ran = ran })
+ran_from e.Memory kinds left bytes journal old new flushed told records ran = (bytes, record { told = told; records = records; ran = ran })
+ran_from e.WriteFault kinds left bytes journal old new flushed told records ran = (bytes, record { told = told; records = records; ran = ran })
+ran_from e.ReadFault kinds left bytes journal old new flushed told records ran = absurd ran
+ran_from e.Usage kinds left bytes journal old new flushed told records ran = absurd ran
 
-pub ran_short : (ended : Ended) (left : Option (List ℕ)) (bytes : List ℕ) (journal : List RecordTree) (old new : Option (List ℕ)) (flushed : Option ℕ)
-    → IfSome left (λ all. all ≡ bytes) → length bytes ≤ MOST → AreRecords start (script_of bytes).commands journal → RanOver bytes (script_of bytes) journal old new flushed ended
-    → RanFrom left journal old new flushed ended
-ran_short ended left bytes journal old new flushed told short records ran =
-    let same = sym (whole_short bytes short) in
-    ran_from ended left bytes journal old new flushed told
-    (subst (λ (s : ScriptTree). AreRecords start s.commands journal) same records)
-    (subst (λ (s : ScriptTree). RanOver bytes s journal old new flushed ended) same ran)
+pub ran_short : (ended : Ended) (kinds : Names) (left : Option (List ℕ)) (bytes : List ℕ) (journal : List RecordTree) (old new : Option (List ℕ)) (flushed : Option ℕ)
+    → IfSome left (λ all. all ≡ bytes) → length bytes ≤ MOST → AreRecords (setting kinds bytes) start (script_of (names_of kinds) bytes).commands journal
+    → RanOver kinds bytes (script_of (names_of kinds) bytes) journal old new flushed ended → RanFrom kinds left journal old new flushed ended
+ran_short ended kinds left bytes journal old new flushed told short records ran =
+    let same = sym (whole_short kinds bytes short) in
+    ran_from ended kinds left bytes journal old new flushed told
+    (subst (λ (s : ScriptTree). AreRecords (setting kinds bytes) start s.commands journal) same records)
+    (subst (λ (s : ScriptTree). RanOver kinds bytes s journal old new flushed ended) same ran)
 
 long_script : ScriptTree
 long_script = record { commands = []; fault = Some too_long }
 
-ran_too_long : (ended : Ended) (bytes : List ℕ) (old new : Option (List ℕ)) (flushed : Option ℕ) → Ran (fault_line bytes (Some too_long)) (over (Some too_long)) old new flushed ended
-    → RanOver bytes long_script [] old new flushed ended
+ran_too_long : (ended : Ended) (kinds : Names) (bytes : List ℕ) (old new : Option (List ℕ)) (flushed : Option ℕ) → Ran (fault_line bytes (Some too_long)) (over (Some too_long)) old new flushed ended
+    → RanOver kinds bytes long_script [] old new flushed ended
 unfolding long_script output end_of
-ran_too_long ended bytes old new flushed r = r
+ran_too_long ended kinds bytes old new flushed r = r
 
-none_too_long : AreRecords start long_script.commands []
+none_too_long : (kinds : Names) (bytes : List ℕ) → AreRecords (setting kinds bytes) start long_script.commands []
 unfolding long_script
-none_too_long = none_right start []
+none_too_long kinds bytes = none_right (setting kinds bytes) start []
 
-pub ran_long : (ended : Ended) (left : Option (List ℕ)) (bytes : List ℕ) (old new : Option (List ℕ)) (flushed : Option ℕ)
+pub ran_long : (ended : Ended) (kinds : Names) (left : Option (List ℕ)) (bytes : List ℕ) (old new : Option (List ℕ)) (flushed : Option ℕ)
     → IfSome left (λ all. all ≡ bytes) → MOST < length bytes → Ran (fault_line bytes (Some too_long)) (over (Some too_long)) old new flushed ended
-    → RanFrom left [] old new flushed ended
+    → RanFrom kinds left [] old new flushed ended
 unfolding long_script
-ran_long ended left bytes old new flushed told long ran =
-    let same : long_script ≡ whole_script bytes = sym (whole_long bytes long) in
-    ran_from ended left bytes [] old new flushed told
-    (subst (λ (s : ScriptTree). AreRecords start s.commands []) same none_too_long)
-    (subst (λ (s : ScriptTree). RanOver bytes s [] old new flushed ended) same (ran_too_long ended bytes old new flushed ran))
+ran_long ended kinds left bytes old new flushed told long ran =
+    let same : long_script ≡ whole_script kinds bytes = sym (whole_long kinds bytes long) in
+    ran_from ended kinds left bytes [] old new flushed told
+    (subst (λ (s : ScriptTree). AreRecords (setting kinds bytes) start s.commands []) same (none_too_long kinds bytes))
+    (subst (λ (s : ScriptTree). RanOver kinds bytes s [] old new flushed ended) same (ran_too_long ended kinds bytes old new flushed ran))
 
--- want of memory before the first command
-pub ran_none : (left : Option (List ℕ)) (written : Option (List ℕ)) (flushed : Option ℕ) → RanFrom left [] written written flushed e.Memory
-ran_none left written flushed =
+-- want of memory before the script was read
+pub ran_none : (kinds : Names) (left : Option (List ℕ)) (written : Option (List ℕ)) (flushed : Option ℕ) → RanFrom kinds left [] written written flushed e.Memory
+ran_none kinds left written flushed =
     let bytes = unwrap_or left [] in
-    ran_from e.Memory left bytes [] written written flushed (told_all left) (none_right start (whole_script bytes).commands) (front_none _ written)
+    ran_from e.Memory kinds left bytes [] written written flushed (told_all left) (none_right (setting kinds bytes) start (whole_script kinds bytes).commands) (front_none _ written)
   where
     told_all : (left : Option (List ℕ)) → IfSome left (λ all. all ≡ unwrap_or left [])
     told_all None = tt

@@ -1,6 +1,4 @@
-pub mod Truth
-pub mod Numbering
-pub mod Texts
-pub mod Session
-pub mod Output
+pub mod Records
+pub mod Steps
+pub mod Went
 pub mod Run

@@ -1,17 +1,21 @@
 -- How a run ends, and what it has then written.
-use Rattle.std.specs.Prelude.{◌≡◌, ◌≤◌, ℕ, Bool, false, if◌then◌else◌, nat_lt, codes, drop, ◌+◌, List, [], ◌∷◌, length, Option, None, Some, IfSome}
+use Rattle.std.specs.Prelude.{◌≡◌, ◌≤◌, ℕ, Bool, false, if◌then◌else◌, nat_lt, codes, drop, ◌+◌, List, [], ◌∷◌, length, map, Option, None, Some, IfSome}
 use Rattle.std.specs.Str.{bytes_eq}
 use Rattle.std.specs.Io.KnownBytes.{Appends, Keeps}
 use Rattle.sexp_read.specs.Outside.{AppendsFront, IsFlushed, Rose, TakesFront}
-use Rattle.smt_script.specs.declared.script.ScriptError.{ScriptError}
-use Rattle.smt_script.specs.declared.script.What.TheVariants.{TooLong}
-use Rattle.smt_script.specs.Command.{ScriptTree}
-use Rattle.smt_script.specs.Script.{script_of}
+use Rattle.strat_text.specs.Grammar.{Names}
+use Rattle.smt_words.specs.declared.error.ScriptError.{ScriptError}
+use Rattle.smt_words.specs.declared.error.What.TheVariants.{TooLong}
+use Rattle.smt_words.specs.Command.{ScriptTree}
+use Rattle.smt_command.specs.Script.{script_of}
+use Rattle.reducer_iface.specs.Names.{Names as Kinds}
 use Rattle.script_run.specs.declared.top.Ended.{Ended}
 use Rattle.script_run.specs.declared.top.Ended.TheVariants as e
 use Rattle.script_run.specs.declared.top.TheConstants.{MOST}
-use Rattle.script_run.specs.Session.{RecordTree}
-use Rattle.script_run.specs.Output.{End, over, start, output, end_of, AreRecords}
+use Rattle.script_text.specs.Answers.{RecordTree}
+use Rattle.script_text.specs.Session.{start}
+use Rattle.script_text.specs.Output.{End, over, output, end_of, AreRecords}
+use Rattle.script_run.specs.Steps.{setting}
 
 -- the status of a program that ends so
 abbrev pub code : Ended → ℕ
@@ -45,29 +49,33 @@ pub record HasCauseOf (before now : ℕ) (ended : Ended) : Type 0 where
 abbrev pub too_long : ScriptError
 too_long = record { what = TooLong; place = 0 }
 
+-- the names of a registry's reducers
+abbrev pub names_of : Kinds → Names
+names_of kinds = Some (map (λ e. e.0) kinds)
+
 -- the script of the bytes, or of too many bytes
-unfoldable pub whole_script : List ℕ → ScriptTree
-whole_script bytes = if nat_lt MOST (length bytes) then record { commands = []; fault = Some too_long } else script_of bytes
+unfoldable pub whole_script : Kinds → List ℕ → ScriptTree
+whole_script kinds bytes = if nat_lt MOST (length bytes) then record { commands = []; fault = Some too_long } else script_of (names_of kinds) bytes
 
 -- A run over the text of a script that these bytes spell.
-abbrev pub RanOver : List ℕ → ScriptTree → List RecordTree → Option (List ℕ) → Option (List ℕ) → Option ℕ → Ended → Type 0
-RanOver bytes script journal old new flushed ended =
-    Ran (output bytes start script.commands script.fault journal) (end_of start script.commands script.fault journal) old new flushed ended
+abbrev pub RanOver : Kinds → List ℕ → ScriptTree → List RecordTree → Option (List ℕ) → Option (List ℕ) → Option ℕ → Ended → Type 0
+RanOver kinds bytes script journal old new flushed ended =
+    Ran (output (setting kinds bytes) start script.commands script.fault journal) (end_of (setting kinds bytes) start script.commands script.fault journal) old new flushed ended
 
 -- Some bytes, those that the source had left where it tells them, are a script that was run so.
-pub record RanWith (left : Option (List ℕ)) (bytes : List ℕ) (journal : List RecordTree) (old new : Option (List ℕ)) (flushed : Option ℕ) (ended : Ended) : Type 0 where
+pub record RanWith (kinds : Kinds) (left : Option (List ℕ)) (bytes : List ℕ) (journal : List RecordTree) (old new : Option (List ℕ)) (flushed : Option ℕ) (ended : Ended) : Type 0 where
   pub told : IfSome left (λ all. all ≡ bytes)
-  pub records : AreRecords start (whole_script bytes).commands journal
-  pub ran : RanOver bytes (whole_script bytes) journal old new flushed ended
+  pub records : AreRecords (setting kinds bytes) start (whole_script kinds bytes).commands journal
+  pub ran : RanOver kinds bytes (whole_script kinds bytes) journal old new flushed ended
 
 -- A run of what a source has left. A failed read leaves nothing written and no record.
-abbrev pub RanFrom : Option (List ℕ) → List RecordTree → Option (List ℕ) → Option (List ℕ) → Option ℕ → Ended → Type 0
-RanFrom left journal old new flushed e.ReadFault = (journal ≡ []) × Keeps old new
-RanFrom left journal old new flushed e.Done = (bytes : List ℕ) × RanWith left bytes journal old new flushed e.Done
-RanFrom left journal old new flushed e.Fault = (bytes : List ℕ) × RanWith left bytes journal old new flushed e.Fault
-RanFrom left journal old new flushed e.Usage = ⊥
-RanFrom left journal old new flushed e.Memory = (bytes : List ℕ) × RanWith left bytes journal old new flushed e.Memory
-RanFrom left journal old new flushed e.WriteFault = (bytes : List ℕ) × RanWith left bytes journal old new flushed e.WriteFault
+abbrev pub RanFrom : Kinds → Option (List ℕ) → List RecordTree → Option (List ℕ) → Option (List ℕ) → Option ℕ → Ended → Type 0
+RanFrom kinds left journal old new flushed e.ReadFault = (journal ≡ []) × Keeps old new
+RanFrom kinds left journal old new flushed e.Done = (bytes : List ℕ) × RanWith kinds left bytes journal old new flushed e.Done
+RanFrom kinds left journal old new flushed e.Fault = (bytes : List ℕ) × RanWith kinds left bytes journal old new flushed e.Fault
+RanFrom kinds left journal old new flushed e.Usage = ⊥
+RanFrom kinds left journal old new flushed e.Memory = (bytes : List ℕ) × RanWith kinds left bytes journal old new flushed e.Memory
+RanFrom kinds left journal old new flushed e.WriteFault = (bytes : List ℕ) × RanWith kinds left bytes journal old new flushed e.WriteFault
 
 -- whether the words are the one word `run`
 abbrev pub is_run : List (List ℕ) → Bool

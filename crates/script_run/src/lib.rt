@@ -2,16 +2,16 @@
 //!
 //! The contract for the layer above: `run` reads a script from a source and writes its answers to a sink. What it
 //! writes is the text of the script's commands by its journal, and each answer of the journal is right. It stands on
-//! `smt_script` for the commands, on `qeval` for the meaning of terms, on `symbol_text` for names as they are written, and on `sexp_read` for the outside.
+//! `smt_command` for the commands, on `script_text` and `script_shown` for sessions and what they show, on `check_record` for checks, and on
+//! `sexp_read` for the outside.
 #![tactic(auto)]
 
-mod answer;
-mod numbering;
+mod checks;
+mod passing;
 mod running;
-mod search;
-mod session;
-mod texts;
+mod stepping;
 mod top;
 
-pub use answer::{Answer, CheckRecord, NameValue, Why};
+pub use check_record::{Answer, CheckRecord, Why};
+pub use checks::Decider;
 pub use top::{Ended, Finished, run};

@@ -2,4 +2,12 @@
 #![tactic(auto)]
 
 #[cfg(test)]
-mod runs;
+mod answers;
+#[cfg(test)]
+mod journal;
+#[cfg(test)]
+mod outside;
+#[cfg(test)]
+mod setup;
+#[cfg(test)]
+mod texts;

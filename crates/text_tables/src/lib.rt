@@ -4,8 +4,6 @@
 #[cfg(test)]
 mod sexp_read_table;
 #[cfg(test)]
-mod smt_script_table;
-#[cfg(test)]
 mod strat_text_table;
 #[cfg(test)]
 mod symbol_text_table;
