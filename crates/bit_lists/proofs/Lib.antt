@@ -1,0 +1,9 @@
+pub mod Powers
+pub mod Numbers
+pub mod Carrying
+pub mod InTurn
+pub mod Naming
+pub mod Values
+pub mod Models
+pub mod Making
+pub mod Looping
