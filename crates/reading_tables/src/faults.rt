@@ -19,7 +19,12 @@ fn fault_of(alloc: Global, bytes: &[u8]) -> Result<Option<ScriptError>, AllocErr
 }
 
 /// Whether the two texts behind the four declarations, one behind the other, have this fault where the second begins.
-fn is_told(alloc: Global, before: &[u8], from: &[u8], what: What) -> Result<bool, AllocError> {
+pub(crate) fn is_told(
+    alloc: Global,
+    before: &[u8],
+    from: &[u8],
+    what: What,
+) -> Result<bool, AllocError> {
     let front = joined(alloc, &[NAMES, before])?;
     let bytes = joined(alloc, &[front.as_slice(), from])?;
     let place = front.len();

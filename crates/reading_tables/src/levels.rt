@@ -128,7 +128,7 @@ fn whole_scripts(rt: HostRuntime) -> Result<(), Fail> {
 }
 
 /// Scripts with a fault: the letters of the commands before it, what is wrong, and its place.
-const CUT: [(&[u8], &[u8], What, usize); 8] = [
+const CUT: [(&[u8], &[u8], What, usize); 7] = [
     (
         b"(check-sat)(foo)(check-sat)",
         b"C",
@@ -160,12 +160,6 @@ const CUT: [(&[u8], &[u8], What, usize); 8] = [
         b"+A-",
         What::UnknownSymbol,
         45,
-    ),
-    (
-        b"(check-sat)(define-fun f ((a Int)) Int a)",
-        b"C",
-        What::NotYet,
-        11,
     ),
 ];
 

@@ -1,12 +1,9 @@
 -- Arguments of commands, where there are more than may be.
-use Rattle.std.proofs.Common.{◌≡◌, ◌≤◌, ℕ, List, [], ◌∷◌, Err, length, refl, arith}
+use Rattle.std.proofs.Common.{◌≡◌, ◌≤◌, ℕ, List, [], ◌∷◌, length, refl, arith}
 use Rattle.sexp_read.specs.declared.sexp.Sexp.{Sexp}
 use Rattle.strat_text.specs.Form.{list, forms_of}
 use Rattle.smt_words.specs.declared.word.OptionKind.{OptionKind}
 use Rattle.smt_command.specs.Reading.{only, nothing_more, bad, option_by, info_value, no_sorts}
-use Rattle.smt_words.specs.declared.error.What.TheVariants.{NotYet}
-use Rattle.smt_names.specs.Reading.{refusal}
-use Rattle.smt_command.specs.Terms.{no_parameters}
 
 -- something stands here
 pub only_more : {A : Type 0} (bytes : List ℕ) (items : List Sexp) (at : ℕ) (a : A) → 1 ≤ length items → only at (forms_of bytes items) a ≡ bad at
@@ -33,8 +30,3 @@ info_more bytes (x ∷ y ∷ items) at h = refl
 pub no_sorts_more : (bytes : List ℕ) (items : List Sexp) (at place : ℕ) → 1 ≤ length items → no_sorts at (list (forms_of bytes items) place) ≡ bad at
 no_sorts_more bytes [] at place h = absurd (omega (arith, h))
 no_sorts_more bytes (x ∷ items) at place h = refl
-
--- parameters
-pub parameters_more : (bytes : List ℕ) (items : List Sexp) (at place : ℕ) → 1 ≤ length items → no_parameters at (list (forms_of bytes items) place) ≡ Err (refusal NotYet at)
-parameters_more bytes [] at place h = absurd (omega (arith, h))
-parameters_more bytes (x ∷ items) at place h = refl

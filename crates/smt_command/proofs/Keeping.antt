@@ -5,6 +5,7 @@ use Rattle.std.proofs.lemmas.Bool.Decides.{nat_tests}
 use Rattle.sexp_read.specs.declared.sexp.Sexp.{Sexp, out-Sexp}
 use Rattle.sexp_read.specs.declared.sexp.Sexp.TheOpen.{Sexp-F}
 use Rattle.sexp_read.specs.Atoms.{Layer, start_of}
+use Rattle.qterm.specs.declared.name.Name.{Name}
 use Rattle.qterm.specs.declared.name.Sort.{Sort}
 use Rattle.qterm.specs.declared.name.Sort.TheVariants as sort
 use Rattle.qterm.specs.Tree.{Tree, sort_of}
@@ -25,7 +26,7 @@ use Rattle.smt_names.specs.Table.{Symbol, symbols_in}
 use Rattle.smt_names.specs.Text.{name_of, may_be_term, may_be_terms}
 use Rattle.smt_names.specs.Reading.{State, Reader, done, refused, refusal, after, and_then, tested}
 use Rattle.smt_names.specs.Atoms.{Scopes}
-use Rattle.smt_names.specs.Annotated.{named}
+use Rattle.smt_names.specs.Annotated.{newly}
 use Rattle.smt_names.specs.Given.{scopes_in, seen}
 use Rattle.smt_term.specs.Term.{read_term}
 use Rattle.smt_command.specs.declared.symbols.Symbols.{Symbols}
@@ -33,12 +34,13 @@ use Rattle.smt_command.specs.declared.kind.Kind.{Kind}
 use Rattle.smt_command.specs.declared.kind.Kind.TheVariants as kind
 use Rattle.smt_command.specs.Kinds.{kind_of}
 use Rattle.smt_command.specs.Change.{InForce, changed}
+use Rattle.smt_command.specs.Parameters.{Parameters, read_parameters, meaning_over, is_function}
 use Rattle.smt_command.specs.Reading.{Test, and, nothing_more, read_sort, most_levels, plain_command}
 use Rattle.tac_cert.specs.Depth.{depth}
 use Rattle.probe_set.specs.Measures.{deepest}
 use Rattle.smt_command.specs.Limits.{most_depth, terms_of, limited}
 use Rattle.smt_command.specs.Laws.{IsLawful, IsSpan, AreSpans, IsShallow, IsNew, levels_after}
-use Rattle.smt_command.specs.Terms.{stays, formula, assertion, no_parameters, counted, defined, meant, sorted, behind_name, is_new, definition, asked, asked_more, asked_from, all_asked, asked_row, asked_in, question, command_of, worded, with_name, read_items, read_layer, read_sexp, settled, read_command}
+use Rattle.smt_command.specs.Terms.{stays, formula, assertion, with_parameters, counted, defined, meant, sorted, behind_name, is_new, definition, asked, asked_more, asked_from, all_asked, asked_row, asked_in, question, command_of, worded, with_name, read_items, read_layer, read_sexp, settled, read_command}
 use Rattle.smt_command.specs.Given.{Tells, HasTerms}
 use Rattle.smt_command.proofs.Lawful.{IsPlainLawful, plain_gives, plain_in}
 use Rattle.smt_command.proofs.Forces.{opened_length, left_length}
@@ -95,24 +97,29 @@ module _ (levels : ℕ) (bytes : List ℕ) where
   assertion_gives S at (more form rest) s = after_gives (IsRead levels bytes) (read_term S form at) _ s (λ t u. formula_gives at (place_of form) rest t u)
 
   -- ---- definitions
-  defined_gives : (at : ℕ) (name : Form) (sort : Sort) (place : ℕ) (rest : Forms) (t : Tree) (u : State) → Keeps (defined at name sort place rest t u)
-  defined_gives at name sort place rest t u = by (same_sort (sort_of t) sort)
+  defined_gives : (at : ℕ) (name : Form) (params : List Name) (sort : Sort) (place : ℕ) (rest : Forms) (t : Tree) (u : State) → Keeps (defined at name params sort place rest t u)
+  defined_gives at name params sort place rest t u = by (same_sort (sort_of t) sort)
     where
-      by : (b : Bool) → Keeps ((if b then tested (nothing_more at rest) (λ _. after (named at t name) (λ _. counted t Define)) else refused BadSort place) u)
-      by true = tested_gives (IsRead levels bytes) (nothing_more at rest) (λ _. after (named at t name) (λ _. counted t Define)) u (λ _. after_gives (IsRead levels bytes) (named at t name) (λ _. counted t Define) u (λ _ v. record { lawful = tt; new = tt; spans = tt }))
+      by : (b : Bool) → Keeps ((if b then tested (nothing_more at rest) (λ _. after (newly at (meaning_over params t) name) (λ _. counted t Define)) else refused BadSort place) u)
+      by true =
+          tested_gives (IsRead levels bytes) (nothing_more at rest) (λ _. after (newly at (meaning_over params t) name) (λ _. counted t Define)) u
+          (λ _. after_gives (IsRead levels bytes) (newly at (meaning_over params t) name) (λ _. counted t Define) u (λ _ v. record { lawful = tt; new = tt; spans = tt }))
       by false = tt
 
-  meant_gives : (S : Scopes) (at : ℕ) (name : Form) (sort : Sort) (forms : Forms) (s : State) → Keeps (meant S at name sort forms s)
-  meant_gives S at name sort none s = tt
-  meant_gives S at name sort (more form rest) s = after_gives (IsRead levels bytes) (read_term S form at) (defined at name sort (place_of form) rest) s (λ t u. defined_gives at name sort (place_of form) rest t u)
+  meant_gives : (S : Scopes) (at : ℕ) (name : Form) (params : List Name) (sort : Sort) (forms : Forms) (s : State) → Keeps (meant S at name params sort forms s)
+  meant_gives S at name params sort none s = tt
+  meant_gives S at name params sort (more form rest) s = after_gives (IsRead levels bytes) (read_term S form at) (defined at name params sort (place_of form) rest) s (λ t u. defined_gives at name params sort (place_of form) rest t u)
 
-  sorted_gives : (S : Scopes) (at : ℕ) (name : Form) (forms : Forms) (s : State) → Keeps (sorted S at name forms s)
-  sorted_gives S at name none s = tt
-  sorted_gives S at name (more form rest) s = tested_gives (IsRead levels bytes) (read_sort at form) (λ sort. meant S at name sort rest) s (λ sort. meant_gives S at name sort rest s)
+  sorted_gives : (S : Scopes) (at : ℕ) (name : Form) (params : List Name) (forms : Forms) (s : State) → Keeps (sorted S at name params forms s)
+  sorted_gives S at name params none s = tt
+  sorted_gives S at name params (more form rest) s = tested_gives (IsRead levels bytes) (read_sort at form) (λ sort. meant S at name params sort rest) s (λ sort. meant_gives S at name params sort rest s)
+
+  parameters_gives : (S : Scopes) (at : ℕ) (name : Form) (rest : Forms) (ps : Parameters) (s : State) → Keeps (with_parameters S at name rest ps s)
+  parameters_gives S at name rest ps s = sorted_gives (ps.scope ∷ S) at name ps.names rest (record s { in_body = is_function ps.names })
 
   behind_gives : (S : Scopes) (at : ℕ) (name : Form) (forms : Forms) (s : State) → Keeps (behind_name S at name forms s)
   behind_gives S at name none s = tt
-  behind_gives S at name (more form rest) s = tested_gives (IsRead levels bytes) (no_parameters at form) (λ _. sorted S at name rest) s (λ _. sorted_gives S at name rest s)
+  behind_gives S at name (more form rest) s = tested_gives (IsRead levels bytes) (read_parameters s.symbols at form) (with_parameters S at name rest) s (λ ps. parameters_gives S at name rest ps s)
 
   definition_gives : (S : Scopes) (at : ℕ) (forms : Forms) (s : State) → Keeps (definition S at forms s)
   definition_gives S at none s = tt
@@ -210,9 +217,9 @@ plain_told levels symbols ts us (Err e) test h k = tt
 
 -- ---- commands with what is in force
 -- where a command begins, no scope is open
-pub begun : (names : Names) (bytes : List ℕ) (sexp : Sexp) (ts : List Tree) (old : Symbols) (st : StateId) (levels : ℕ) → st.symbols ≡ old.state.symbols → st.scopes ≡ [] → st.bound ≡ [] → levels ≡ length old.levels
-    → read_sexp names (scopes_in ts st.scopes) levels bytes sexp (seen ts st) ≡ read_sexp names [] (length old.levels) bytes sexp (record { symbols = symbols_in ts old.state.symbols; bound = [] })
-begun names bytes sexp ts old st levels symbols scopes bound l = λ i. read_sexp names (scopes_in ts (scopes i)) (l i) bytes sexp (let s : State = record { symbols = symbols_in ts (symbols i); bound = trees_of ts (bound i) } in s)
+pub begun : (names : Names) (bytes : List ℕ) (sexp : Sexp) (ts : List Tree) (old : Symbols) (st : StateId) (levels : ℕ) → st.symbols ≡ old.state.symbols → st.scopes ≡ [] → st.bound ≡ [] → st.in_body ≡ false → levels ≡ length old.levels
+    → read_sexp names (scopes_in ts st.scopes) levels bytes sexp (seen ts st) ≡ read_sexp names [] (length old.levels) bytes sexp (record { symbols = symbols_in ts old.state.symbols; bound = []; in_body = false })
+begun names bytes sexp ts old st levels symbols scopes bound in_body l = λ i. read_sexp names (scopes_in ts (scopes i)) (l i) bytes sexp (let s : State = record { symbols = symbols_in ts (symbols i); bound = trees_of ts (bound i); in_body = in_body i } in s)
 
 -- how many levels are open behind a command
 pub changed_length : (c : CommandTree) (s : InForce) → IsLawful (length s.levels) c → length (changed c s).levels ≡ levels_after (length s.levels) c
@@ -261,5 +268,5 @@ settled_gives bytes s at (Err e) h = tt
 
 pub command_settled : (names : Names) (bytes : List ℕ) (sexp : Sexp) (s : InForce) → IfOk (read_command names bytes sexp s) (IsSettled bytes s)
 command_settled names bytes sexp s =
-    let start : State = record { symbols = s.symbols; bound = [] } in
+    let start : State = record { symbols = s.symbols; bound = []; in_body = false } in
     settled_gives bytes s (start_of sexp) (read_sexp names [] (length s.levels) bytes sexp start) (read_gives (length s.levels) bytes names [] start sexp)

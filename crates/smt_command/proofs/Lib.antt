@@ -14,4 +14,6 @@ pub mod ScriptLaws
 pub mod Settling
 pub mod Opening
 pub mod Shallow
+pub mod FreshTexts
+pub mod Parameters
 pub mod Counted

@@ -1,6 +1,6 @@
 -- A command that is read, and then what it changes.
 use Rattle.std.proofs.Common.{◌≡◌, ℕ, List, [], ◌++◌, Result, Ok, Err, length, ap, sym, subst, ◌∙◌}
-use Rattle.std.specs.Prelude.{⊤, IfOk, IsErrAnd, Some}
+use Rattle.std.specs.Prelude.{⊤, false, IfOk, IsErrAnd, Some}
 use Rattle.sexp_read.specs.declared.sexp.Sexp.{Sexp}
 use Rattle.sexp_read.specs.Atoms.{start_of}
 use Rattle.qterm.specs.Tree.{Tree}
@@ -29,17 +29,17 @@ use Rattle.smt_command.proofs.Placed.{command_tree_extends}
 use Rattle.smt_command.proofs.Keeping.{IsRead, begun, read_gives}
 
 module _ (names : Names) (bytes : List ℕ) (sexp : Sexp) (ts : List Tree) (old : Symbols) (st : StateId) (levels : ℕ)
-    (symbols : st.symbols ≡ old.state.symbols) (scopes : st.scopes ≡ []) (bound : st.bound ≡ []) (l : levels ≡ length old.levels) where
+    (symbols : st.symbols ≡ old.state.symbols) (scopes : st.scopes ≡ []) (bound : st.bound ≡ []) (in_body : st.in_body ≡ false) (l : levels ≡ length old.levels) where
   -- what is in force where the command begins
   start : State
-  start = record { symbols = symbols_in ts old.state.symbols; bound = [] }
+  start = record { symbols = symbols_in ts old.state.symbols; bound = []; in_body = false }
 
   -- the command as it is defined
   abbrev Reading : Type 0
   Reading = Result (CommandTree × State) ScriptError
 
-  same : read_sexp names (scopes_in ts st.scopes) levels bytes sexp (seen ts st) ≡ read_sexp names [] (length old.levels) bytes sexp (record { symbols = symbols_in ts old.state.symbols; bound = [] })
-  same = begun names bytes sexp ts old st levels symbols scopes bound l
+  same : read_sexp names (scopes_in ts st.scopes) levels bytes sexp (seen ts st) ≡ read_sexp names [] (length old.levels) bytes sexp (record { symbols = symbols_in ts old.state.symbols; bound = []; in_body = false })
+  same = begun names bytes sexp ts old st levels symbols scopes bound in_body l
 
   settled_err : (e : ReadError) (r : Reading) → Refuses e r → Refuses e (settled (start_of sexp) old.levels r)
   settled_err (Refused f) r h = ap (settled (start_of sexp) old.levels) h
@@ -51,7 +51,7 @@ module _ (names : Names) (bytes : List ℕ) (sexp : Sexp) (ts : List Tree) (old 
   taken_fault us new e (Ok c) told h = absurd told
   taken_fault us new e (Err d) told h =
       subst (λ x. Refuses x (read_command names bytes sexp (in_force ts old))) (sym told)
-      (settled_err e (read_sexp names [] (length old.levels) bytes sexp (record { symbols = symbols_in ts old.state.symbols; bound = [] })) (subst (Refuses e) same h))
+      (settled_err e (read_sexp names [] (length old.levels) bytes sexp (record { symbols = symbols_in ts old.state.symbols; bound = []; in_body = false })) (subst (Refuses e) same h))
 
   module _ (us : List Tree) (u : StateId) (c : Command) (given : read_sexp names (scopes_in ts st.scopes) levels bytes sexp (seen ts st) ≡ Ok (command_tree us c, seen us u)) where
     read_law : IsRead (length old.levels) bytes (command_tree us c, seen us u)

@@ -2,6 +2,8 @@ pub mod Levels
 pub mod Change
 pub mod Reading
 pub mod Kinds
+pub mod Parameters
+pub mod GivenParameters
 pub mod Limits
 pub mod Terms
 pub mod Given

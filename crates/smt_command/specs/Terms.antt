@@ -1,17 +1,18 @@
 -- Commands with terms, and a command by its word: first the word, then the arguments from left to right, then their
 -- number and kind.
-use Rattle.std.specs.Prelude.{ℕ, min, if◌then◌else◌, List, [], ◌∷◌, ◌++◌, length, Option, None, Some, Result, Ok, Err, ⊤}
+use Rattle.std.specs.Prelude.{ℕ, false, min, if◌then◌else◌, List, [], ◌∷◌, ◌++◌, length, Option, None, Some, Result, Ok, Err, ⊤}
 use Rattle.sexp_read.specs.declared.sexp.Sexp.{Sexp, out-Sexp}
 use Rattle.sexp_read.specs.declared.sexp.Sexp.TheOpen.{Sexp-F}
 use Rattle.sexp_read.specs.Atoms.{Layer, start_of, end_of}
+use Rattle.qterm.specs.declared.name.Name.{Name}
 use Rattle.qterm.specs.declared.name.Sort.{Sort}
 use Rattle.qterm.specs.declared.name.Sort.TheVariants as sort
 use Rattle.qterm.specs.Tree.{Tree, sort_of}
-use Rattle.strat_text.specs.Form.{Form, atom, list, Forms, none, more, form_of, forms_of, place_of}
+use Rattle.strat_text.specs.Form.{Form, Forms, none, more, form_of, forms_of, place_of}
 use Rattle.strat_text.specs.Grammar.{Names}
 use Rattle.smt_theory.specs.Sorts.{same_sort}
 use Rattle.smt_words.specs.declared.error.ScriptError.{ScriptError}
-use Rattle.smt_words.specs.declared.error.What.TheVariants.{UnknownCommand, BadShape, BadSort, NotYet}
+use Rattle.smt_words.specs.declared.error.What.TheVariants.{UnknownCommand, BadShape, BadSort}
 use Rattle.smt_words.specs.declared.word.Word.{Word}
 use Rattle.smt_words.specs.Words.{word_named}
 use Rattle.smt_words.specs.Command.{CommandTree, Assert, Define, GetValue, AskedTree}
@@ -20,14 +21,15 @@ use Rattle.smt_names.specs.Text.{name_of, may_be_term, may_be_terms}
 use Rattle.smt_names.specs.Reading.{State, Reader, done, refused, after, tested, refusal}
 use Rattle.smt_names.specs.Names.{new_name}
 use Rattle.smt_names.specs.Atoms.{Scopes}
-use Rattle.smt_names.specs.Annotated.{named}
+use Rattle.smt_names.specs.Annotated.{newly}
 use Rattle.smt_term.specs.Term.{read_term}
 use Rattle.smt_command.specs.declared.kind.Kind.{Kind}
 use Rattle.smt_command.specs.declared.kind.Kind.TheVariants as kind
 use Rattle.smt_command.specs.Kinds.{kind_of}
 use Rattle.smt_command.specs.Change.{InForce, changed}
+use Rattle.smt_command.specs.Parameters.{Parameters, read_parameters, meaning_over, is_function}
 use Rattle.smt_command.specs.Limits.{terms_of, limited}
-use Rattle.smt_command.specs.Reading.{Test, and, bad, nothing_more, read_sort, plain_command}
+use Rattle.smt_command.specs.Reading.{Test, and, nothing_more, read_sort, plain_command}
 
 -- a test that leaves the state
 abbrev pub stays : {A : Type 0} → Test A → Reader A
@@ -44,35 +46,34 @@ assertion scopes at none = refused BadShape at
 assertion scopes at (more form rest) = after (read_term scopes form at) (λ t. stays (formula at (place_of form) rest t))
 
 -- ---- definitions
--- No parameters, which is the one form of definitions that is built.
-abbrev pub no_parameters : ℕ → Form → Test ⊤
-no_parameters at (atom is text place) = bad at
-no_parameters at (list none place) = Ok tt
-no_parameters at (list (more form forms) place) = Err (refusal NotYet at)
-
 -- the term counts
 abbrev pub counted : {A : Type 0} → Tree → A → Reader A
-counted t a s = Ok (a, record { symbols = s.symbols; bound = s.bound ++ t ∷ [] })
+counted t a s = Ok (a, record s { bound = s.bound ++ t ∷ [] })
 
--- a term of the sort and nothing behind it: the name, which has to be new still, stands for the term
-abbrev pub defined : ℕ → Form → Sort → ℕ → Forms → Tree → Reader CommandTree
-defined at name s place rest t =
-    if same_sort (sort_of t) s then tested (nothing_more at rest) (λ _. after (named at t name) (λ _. counted t Define)) else refused BadSort place
+-- a term of the sort and nothing behind it: the name, which has to be new still, stands for the term, or for the function of these
+-- parameters
+abbrev pub defined : ℕ → Form → List Name → Sort → ℕ → Forms → Tree → Reader CommandTree
+defined at name params s place rest t =
+    if same_sort (sort_of t) s then tested (nothing_more at rest) (λ _. after (newly at (meaning_over params t) name) (λ _. counted t Define)) else refused BadSort place
 
 -- what stands behind the sort
-abbrev pub meant : Scopes → ℕ → Form → Sort → Forms → Reader CommandTree
-meant scopes at name s none = refused BadShape at
-meant scopes at name s (more form rest) = after (read_term scopes form at) (defined at name s (place_of form) rest)
+abbrev pub meant : Scopes → ℕ → Form → List Name → Sort → Forms → Reader CommandTree
+meant scopes at name params s none = refused BadShape at
+meant scopes at name params s (more form rest) = after (read_term scopes form at) (defined at name params s (place_of form) rest)
 
 -- what stands behind the parameters
-abbrev pub sorted : Scopes → ℕ → Form → Forms → Reader CommandTree
-sorted scopes at name none = refused BadShape at
-sorted scopes at name (more form rest) = tested (read_sort at form) (λ s. meant scopes at name s rest)
+abbrev pub sorted : Scopes → ℕ → Form → List Name → Forms → Reader CommandTree
+sorted scopes at name params none = refused BadShape at
+sorted scopes at name params (more form rest) = tested (read_sort at form) (λ s. meant scopes at name params s rest)
+
+-- what stands behind the parameters, which the body sees in a scope; the body of a function gives no names
+abbrev pub with_parameters : Scopes → ℕ → Form → Forms → Parameters → Reader CommandTree
+with_parameters scopes at name rest ps s = sorted (ps.scope ∷ scopes) at name ps.names rest (record s { in_body = is_function ps.names })
 
 -- what stands behind the name
 abbrev pub behind_name : Scopes → ℕ → Form → Forms → Reader CommandTree
-behind_name scopes at name none = refused BadShape at
-behind_name scopes at name (more form rest) = tested (no_parameters at form) (λ _. sorted scopes at name rest)
+behind_name scopes at name none s = refused BadShape at s
+behind_name scopes at name (more form rest) s = tested (read_parameters s.symbols at form) (with_parameters scopes at name rest) s
 
 -- a new name
 abbrev pub is_new : List Symbol → ℕ → Form → Test ⊤
@@ -165,4 +166,4 @@ settled at levels (Err e) = Err e
 
 -- The command that an s-expression spells, and what is in force behind it, or the first refusal.
 abbrev pub read_command : Names → List ℕ → Sexp → InForce → Result (CommandTree × InForce) ScriptError
-read_command names bytes sexp s = settled (start_of sexp) s.levels (read_sexp names [] (length s.levels) bytes sexp (record { symbols = s.symbols; bound = [] }))
+read_command names bytes sexp s = settled (start_of sexp) s.levels (read_sexp names [] (length s.levels) bytes sexp (record { symbols = s.symbols; bound = []; in_body = false }))

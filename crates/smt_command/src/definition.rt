@@ -1,25 +1,27 @@
-//! Definitions of names without parameters.
+//! Definitions of names, with parameters or without.
 ghost use Rattle.std.specs.Prelude.{◌≡◌, [], ◌∷◌, ◌++◌, List, IfOk, OnOk, OnErr};
 ghost use Rattle.qterm.specs.Tree.{Tree};
 ghost use Rattle.qterm.specs.Store.{Has, tree_at};
 ghost use Rattle.strat_text.specs.Form.{form_of, forms_of};
-ghost use Rattle.smt_theory.specs.Sorts as sorts;
 ghost use Rattle.smt_words.specs.Command.{command_tree};
 ghost use Rattle.smt_names.specs.Table.{symbols_in};
 ghost use Rattle.smt_names.specs.Given.{IsIn, Gives, Goes, scopes_in, seen};
 ghost use Rattle.smt_command.specs.Given.{Tells, HasTerms};
+ghost use Rattle.smt_command.specs.GivenParameters.{parameters_in, AreParametersIn};
 ghost use Rattle.smt_command.specs.Terms as spec;
 
 use crate::argument::{bad, nothing};
 use crate::declaration::read_sort;
+use crate::parameter::{Parameters, is_function, meaning_over, read_parameters};
 use qterm::{Sort, Store, TermId};
 use sexp_read::Sexp;
-use smt_names::{State, Table, name_term, new_name, place};
+use smt_names::{Params, State, Table, define, new_name, place};
 use smt_term::read_term;
+use smt_theory::same_sort;
 use smt_words::{Command, ReadError, What, refused};
 use std::alloc::{AllocError, Global};
 
-/// `(define-fun NAME () SORT T)`: from here on the name stands for the term.
+/// `(define-fun NAME (P ..) SORT T)`: from here on the name stands for the term, or for the function of the parameters.
 pub(crate) fn read_definition(
     alloc: Global,
     bytes: &[u8],
@@ -70,24 +72,43 @@ fn behind_name(
     match rest {
         [] => Err(bad(at)),
         [parameters, rest @ ..] => {
-            no_parameters(bytes, parameters, at)?;
-            sorted(alloc, bytes, name, rest, at, state, store)
+            let parameters = read_parameters(alloc, bytes, parameters, at, &state.symbols, store)?;
+            with_parameters(alloc, bytes, name, parameters, rest, at, state, store)
         }
     }
 }
 
-/// An empty list of parameters.
-#[tactic(auto, unfolding(strat_text::specs::Form::form_of), using(crate::proofs::Ends::parameters_more))]
-fn no_parameters(bytes: &[u8], sexp: &Sexp, at: usize) -> Result<(), ReadError>
-    ensures { Tells (λ done. done) result (spec.no_parameters at (form_of bytes.now sexp.now)) }
+/// What stands behind the parameters, which the body sees.
+fn with_parameters(
+    alloc: Global,
+    bytes: &[u8],
+    name: &Sexp,
+    parameters: Parameters,
+    rest: &[Sexp],
+    at: usize,
+    state: &mut State,
+    store: &mut Store,
+) -> Result<Command, ReadError>
+    requires there { IsIn store.old state.old }
+    requires parameters { AreParametersIn store.old parameters }
+    ensures read { Gives (command_tree store.new) store.new state.new result (spec.with_parameters (scopes_in store.old state.old.scopes) at (form_of bytes.now name.now) (forms_of bytes.now rest.now) (parameters_in store.old parameters) (seen store.old state.old)) }
+    ensures in_store { IfOk result (HasTerms store.new) }
+    ensures goes { Goes store.old state.old store.new state.new }
 {
-    match sexp {
-        Sexp::Atom { .. } => Err(bad(at)),
-        Sexp::List { items, .. } => match items.as_slice() {
-            [] => Ok(()),
-            [_, ..] => Err(refused(What::NotYet, at)),
-        },
-    }
+    let Parameters { scope, names, .. } = parameters;
+    let in_body = is_function(&names);
+    open_body(scope, in_body, state)?;
+    sorted(alloc, bytes, name, names, rest, at, state, store)
+}
+
+/// Goes into a body, which sees a scope more.
+fn open_body(scope: Table, in_body: bool, state: &mut State) -> Result<(), AllocError>
+    ensures opened { OnOk result (state.new ≡ record state.old { scopes = scope ∷ state.old.scopes; in_body = in_body }) }
+    ensures err { OnErr result (state.new ≡ state.old) }
+{
+    state.scopes.enter(scope)?;
+    state.in_body = in_body;
+    Ok(())
 }
 
 /// What stands behind the parameters: a sort first.
@@ -95,13 +116,14 @@ fn sorted(
     alloc: Global,
     bytes: &[u8],
     name: &Sexp,
+    params: Params,
     rest: &[Sexp],
     at: usize,
     state: &mut State,
     store: &mut Store,
 ) -> Result<Command, ReadError>
     requires there { IsIn store.old state.old }
-    ensures read { Gives (command_tree store.new) store.new state.new result (spec.sorted (scopes_in store.old state.old.scopes) at (form_of bytes.now name.now) (forms_of bytes.now rest.now) (seen store.old state.old)) }
+    ensures read { Gives (command_tree store.new) store.new state.new result (spec.sorted (scopes_in store.old state.old.scopes) at (form_of bytes.now name.now) params (forms_of bytes.now rest.now) (seen store.old state.old)) }
     ensures in_store { IfOk result (HasTerms store.new) }
     ensures goes { Goes store.old state.old store.new state.new }
 {
@@ -109,7 +131,7 @@ fn sorted(
         [] => Err(bad(at)),
         [sort, rest @ ..] => {
             let sort = read_sort(bytes, sort, at)?;
-            meant(alloc, bytes, name, sort, rest, at, state, store)
+            meant(alloc, bytes, name, params, sort, rest, at, state, store)
         }
     }
 }
@@ -119,6 +141,7 @@ fn meant(
     alloc: Global,
     bytes: &[u8],
     name: &Sexp,
+    params: Params,
     sort: Sort,
     rest: &[Sexp],
     at: usize,
@@ -126,7 +149,7 @@ fn meant(
     store: &mut Store,
 ) -> Result<Command, ReadError>
     requires there { IsIn store.old state.old }
-    ensures read { Gives (command_tree store.new) store.new state.new result (spec.meant (scopes_in store.old state.old.scopes) at (form_of bytes.now name.now) sort (forms_of bytes.now rest.now) (seen store.old state.old)) }
+    ensures read { Gives (command_tree store.new) store.new state.new result (spec.meant (scopes_in store.old state.old.scopes) at (form_of bytes.now name.now) params sort (forms_of bytes.now rest.now) (seen store.old state.old)) }
     ensures in_store { IfOk result (HasTerms store.new) }
     ensures goes { Goes store.old state.old store.new state.new }
 {
@@ -135,16 +158,19 @@ fn meant(
         [form, rest @ ..] => {
             let id = read_term(alloc, bytes, form, at, state, store)?;
             let place = place(bytes, form);
-            defined(alloc, bytes, name, sort, id, place, rest, at, state, store)
+            defined(
+                alloc, bytes, name, params, sort, id, place, rest, at, state, store,
+            )
         }
     }
 }
 
-/// A term of the sort, and nothing behind it: the name stands for it.
+/// A term of the sort, and nothing behind it: the name stands for it, or for the function that has it as its body.
 fn defined(
     alloc: Global,
     bytes: &[u8],
     name: &Sexp,
+    params: Params,
     sort: Sort,
     id: TermId,
     place: usize,
@@ -155,7 +181,7 @@ fn defined(
 ) -> Result<Command, ReadError>
     requires there { IsIn store.now state.old }
     requires has { Has store.now id }
-    ensures read { Gives (command_tree store.now) store.now state.new result (spec.defined at (form_of bytes.now name.now) sort place (forms_of bytes.now rest.now) (tree_at store.now id) (seen store.now state.old)) }
+    ensures read { Gives (command_tree store.now) store.now state.new result (spec.defined at (form_of bytes.now name.now) params sort place (forms_of bytes.now rest.now) (tree_at store.now id) (seen store.now state.old)) }
     ensures in_store { IfOk result (HasTerms store.now) }
     ensures goes { Goes store.now state.old store.now state.new }
 {
@@ -163,7 +189,7 @@ fn defined(
         return Err(refused(What::BadSort, place));
     }
     nothing(bytes, rest, at)?;
-    name_term(alloc, bytes, name, at, id, state)?;
+    define(alloc, bytes, name, at, meaning_over(params, id), state)?;
     count(id, state)?;
     Ok(Command::Define)
 }
@@ -176,13 +202,4 @@ fn count(id: TermId, state: &mut State) -> Result<(), AllocError>
 {
     state.bound.push(id)?;
     Ok(())
-}
-
-fn same_sort(a: Sort, b: Sort) -> bool
-    ensures { result ≡ sorts.same_sort a b }
-{
-    match a {
-        Sort::Bool => matches!(b, Sort::Bool),
-        Sort::Int => matches!(b, Sort::Int),
-    }
 }

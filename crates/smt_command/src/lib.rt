@@ -2,7 +2,7 @@
 //!
 //! The contract for the layer above: `commands` gives the script that the bytes spell, with its terms in a store, exactly; it reads until
 //! `exit`, the end or the first fault. `read_command` gives the command that one s-expression spells under the symbols in force,
-//! which it changes, or the first refusal with its place, after which they are as before. `define-fun` with parameters isn't built yet.
+//! which it changes, or the first refusal with its place, after which they are as before.
 #![tactic(auto)]
 
 mod argument;
@@ -14,6 +14,7 @@ mod kind;
 mod levels;
 mod limits;
 mod option;
+mod parameter;
 mod pushing;
 mod question;
 mod read;

@@ -1,5 +1,5 @@
 //! Symbols with levels.
-ghost use Rattle.std.specs.Prelude.{◌≡◌, ◌≤◌, ◌+◌, [], length, None, IfOk, OnOk, OnErr};
+ghost use Rattle.std.specs.Prelude.{◌≡◌, ◌≤◌, ◌+◌, [], false, length, None, IfOk, OnOk, OnErr};
 ghost use Rattle.std.specs.Map.{lookup};
 ghost use Rattle.std.specs.Str.{bytes_eq};
 ghost use Rattle.qterm.specs.Tree.{Var};
@@ -25,11 +25,13 @@ fn empty(alloc: Global) -> State
     ensures symbols { result.symbols ≡ [] }
     ensures scopes { result.scopes ≡ [] }
     ensures bound { result.bound ≡ [] }
+    ensures in_body { result.in_body ≡ false }
 {
     State {
         symbols: Table::new(alloc),
         scopes: Scopes::new(alloc),
         bound: Bound::new(alloc),
+        in_body: false,
     }
 }
 
@@ -52,10 +54,12 @@ impl Symbols {
         ensures symbols { self.new.state.symbols ≡ self.old.state.symbols }
         ensures scopes { self.new.state.scopes ≡ [] }
         ensures bound { self.new.state.bound ≡ [] }
+        ensures in_body { self.new.state.in_body ≡ false }
         ensures levels { self.new.levels ≡ self.old.levels }
     {
         self.state.scopes = Scopes::new(alloc);
         self.state.bound = Bound::new(alloc);
+        self.state.in_body = false;
     }
 
     /// A declared name is a symbol from here on.
@@ -123,7 +127,7 @@ impl Symbols {
 }
 
 /// The name as a term.
-fn variable(name: &Name, store: &mut Store) -> Result<TermId, AllocError>
+pub(crate) fn variable(name: &Name, store: &mut Store) -> Result<TermId, AllocError>
     ensures shows { IfOk result (λ id. Shows store.new id (Var name.now)) }
     ensures extends { Extends store.old store.new }
 {

@@ -11,13 +11,13 @@ use Rattle.smt_theory.specs.Sorts.{wrong_sort}
 use Rattle.smt_theory.specs.Plain.{plain_of}
 use Rattle.smt_words.specs.declared.error.ScriptError.{ScriptError}
 use Rattle.smt_words.specs.declared.error.What.TheVariants.{BadShape, NotLinear}
-use Rattle.smt_names.specs.Table.{Defined}
+use Rattle.smt_names.specs.Table.{Meaning, Defined}
 use Rattle.smt_names.specs.Text.{bare, number_in, keyword_of}
 use Rattle.smt_names.specs.Reading.{State, Reader, done, refused, and_then, after, tested}
 use Rattle.smt_names.specs.Names.{value_of, new_name}
 use Rattle.smt_names.specs.Atoms.{Scopes, known, numbered, read_atom}
 use Rattle.smt_names.specs.Applied.{narrow, is_allowed, sorted, fit, applied}
-use Rattle.smt_names.specs.Annotated.{bind, only, define, «named», attribute, lone, attributed, last_attribute, attributes, some_attributes}
+use Rattle.smt_names.specs.Annotated.{bind, only, define, newly, «named», attribute, lone, attributed, last_attribute, attributes, some_attributes}
 use Rattle.smt_names.specs.Given.{IsFront}
 
 -- ---- one after another
@@ -138,11 +138,14 @@ pub grows_bind : (name : List ℕ) (t : Tree) → OnlyGrows (bind name t)
 grows_bind name t = λ s. record { symbols = ([], sym (append-nil s.symbols)); bound = (t ∷ [], refl) }
 
 -- a new name
-grows_define : (t : Tree) (name : List ℕ) → OnlyGrows (define t name)
-grows_define t name = λ s. record { symbols = ((name, Defined t) ∷ [], refl); bound = ([], sym (append-nil s.bound)) }
+grows_define : (m : Meaning) (name : List ℕ) → OnlyGrows (define m name)
+grows_define m name = λ s. record { symbols = ((name, m) ∷ [], refl); bound = ([], sym (append-nil s.bound)) }
+
+pub grows_newly : (at : ℕ) (m : Meaning) (form : Form) → OnlyGrows (newly at m form)
+grows_newly at m form = λ s. grows_tested (new_name s.symbols at form) (define m) (grows_define m) s
 
 grows_named : (at : ℕ) (t : Tree) (form : Form) → OnlyGrows («named» at t form)
-grows_named at t form = λ s. grows_tested (new_name s.symbols at form) (define t) (grows_define t) s
+grows_named at t form = λ s. grows_if s.in_body (refused BadShape at) (newly at (Defined t) form) (λ u. tt) (grows_newly at (Defined t) form) s
 
 grows_attribute : (at : ℕ) (t : Tree) (key : List ℕ) (value : Form) → OnlyGrows (attribute at t key value)
 grows_attribute at t key value = grows_if (bytes_eq key (codes ":named")) («named» at t value) (done tt) (grows_named at t value) grows_refl

@@ -9,3 +9,4 @@ pub mod Annotations
 pub mod Bindings
 pub mod Pushing
 pub mod Laws
+pub mod Calls

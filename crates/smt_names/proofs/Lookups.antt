@@ -41,6 +41,7 @@ constant_at : (ts : List Tree) (m : Option MeaningId) → constant_of (meaning_a
 constant_at ts None = refl
 constant_at ts (Some (meaning.Declared id sort)) = refl
 constant_at ts (Some (meaning.Defined id)) = refl
+constant_at ts (Some (meaning.Function params id)) = refl
 
 pub constant_seen : (ts : List Tree) (es : List Entry) (name : List ℕ) → constant_of (meaning_of (symbols_in ts es) name) ≡ tree_in ts (constant_id (lookup (bytes_eq name) es))
 constant_seen ts es name = ap constant_of (meaning_seen ts es name) ∙ constant_at ts (lookup (bytes_eq name) es)
@@ -72,6 +73,7 @@ IsThereIn ts (Some id) = Has ts id
 constant_there : (ts : List Tree) (m : MeaningId) → IsThere ts m → IsThereIn ts (constant_id (Some m))
 constant_there ts (meaning.Declared id sort) h = h
 constant_there ts (meaning.Defined id) h = h
+constant_there ts (meaning.Function params id) h = tt
 
 pub lookup_there : (ts : List Tree) (es : List Entry) (name : List ℕ) → AreThere ts es → IsThereIn ts (constant_id (lookup (bytes_eq name) es))
 lookup_there ts [] name h = tt

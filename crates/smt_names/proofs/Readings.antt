@@ -12,7 +12,7 @@ use Rattle.smt_words.specs.declared.error.ScriptError.{ScriptError}
 use Rattle.smt_names.specs.declared.meaning.Meaning.{Meaning as MeaningId}
 use Rattle.smt_names.specs.declared.meaning.Meaning.TheVariants as meaning
 use Rattle.smt_names.specs.declared.state.State.{State as StateId}
-use Rattle.smt_names.specs.Table.{Entry, meaning_in, symbols_in, IsThere, AreThere, Declared, Defined}
+use Rattle.smt_names.specs.Table.{Entry, meaning_in, symbols_in, IsThere, AreThere, Declared, Defined, Function}
 use Rattle.smt_names.specs.Reading.{State, Reader, and_then, tested}
 use Rattle.smt_names.specs.Given.{seen, scopes_in, Gives, Refuses, Answers, IsIn, Goes}
 
@@ -47,10 +47,12 @@ handed P e r (Err d) told h = subst (λ x. Refuses x r) (sym told) h
 meaning_extends : (ts us : List Tree) (m : MeaningId) → Extends ts us → IsThere ts m → meaning_in us m ≡ meaning_in ts m
 meaning_extends ts us (meaning.Declared id sort) e h = ap (λ t. Declared t sort) (e.same id h)
 meaning_extends ts us (meaning.Defined id) e h = ap Defined (e.same id h)
+meaning_extends ts us (meaning.Function params id) e h = ap (Function params) (e.same id h)
 
 there_extends : (ts us : List Tree) (m : MeaningId) → Extends ts us → IsThere ts m → IsThere us m
 there_extends ts us (meaning.Declared id sort) e h = Has_extends ts us id e h
 there_extends ts us (meaning.Defined id) e h = Has_extends ts us id e h
+there_extends ts us (meaning.Function params id) e h = Has_extends ts us id e h
 
 -- symbols keep their meanings
 pub symbols_extends : (ts us : List Tree) (es : List Entry) → Extends ts us → AreThere ts es → symbols_in us es ≡ symbols_in ts es
@@ -66,7 +68,7 @@ scopes_extends ts us [] e h = refl
 scopes_extends ts us (s ∷ ss) e h = λ i. symbols_extends ts us s e (All-head (AreThere ts) s ss h) i ∷ scopes_extends ts us ss e (All-tail (AreThere ts) s ss h) i
 
 pub seen_extends : (ts us : List Tree) (s : StateId) → Extends ts us → IsIn ts s → seen us s ≡ seen ts s
-seen_extends ts us s e h = λ i. record { symbols = symbols_extends ts us s.symbols e h.symbols i; bound = trees_of_extends ts us s.bound e h.bound i }
+seen_extends ts us s e h = λ i. record { symbols = symbols_extends ts us s.symbols e h.symbols i; bound = trees_of_extends ts us s.bound e h.bound i; in_body = s.in_body }
 
 pub IsIn_extends : (ts us : List Tree) (s : StateId) → Extends ts us → IsIn ts s → IsIn us s
 IsIn_extends ts us s e h = record {

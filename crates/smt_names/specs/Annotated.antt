@@ -5,7 +5,7 @@ use Rattle.qterm.specs.Tree.{Tree}
 use Rattle.strat_text.specs.Form.{Form, atom, list, Forms, none, more}
 use Rattle.smt_words.specs.declared.error.ScriptError.{ScriptError}
 use Rattle.smt_words.specs.declared.error.What.TheVariants.{BadShape}
-use Rattle.smt_names.specs.Table.{Symbol, Defined}
+use Rattle.smt_names.specs.Table.{Symbol, Meaning, Defined}
 use Rattle.smt_names.specs.Text.{keyword_of}
 use Rattle.smt_names.specs.Reading.{Reader, done, refusal, refused, after, tested}
 use Rattle.smt_names.specs.Names.{new_name}
@@ -29,7 +29,7 @@ pair_of (list items place) at = pair_in items place
 
 -- the term counts, and the name stands for it
 abbrev pub bind : List ℕ → Tree → Reader Symbol
-bind name t s = Ok ((name, Defined t), record { symbols = s.symbols; bound = s.bound ++ t ∷ [] })
+bind name t s = Ok ((name, Defined t), record s { bound = s.bound ++ t ∷ [] })
 
 -- the term that is read, where no further form stands behind it
 abbrev pub only : ℕ → Forms → Tree → Reader Tree
@@ -37,13 +37,17 @@ only at none t = done t
 only at (more form forms) t = refused BadShape at
 
 -- ---- annotations
--- the name stands for the term from here on
-abbrev pub define : Tree → List ℕ → Reader ⊤
-define t name s = Ok (tt, record { symbols = s.symbols ++ (name, Defined t) ∷ []; bound = s.bound })
+-- the name has a meaning from here on
+abbrev pub define : Meaning → List ℕ → Reader ⊤
+define m name s = Ok (tt, record s { symbols = s.symbols ++ (name, m) ∷ [] })
 
--- a new name for the term
+-- a new name with a meaning
+abbrev pub newly : ℕ → Meaning → Form → Reader ⊤
+newly at m form s = tested (new_name s.symbols at form) (define m) s
+
+-- a new name for the term, unless it stands in the body of a function
 abbrev pub named : ℕ → Tree → Form → Reader ⊤
-named at t form s = tested (new_name s.symbols at form) (define t) s
+named at t form s = (if s.in_body then refused BadShape at else newly at (Defined t) form) s
 
 -- `:named` with its name; any other keyword is ignored with its value
 abbrev pub attribute : ℕ → Tree → List ℕ → Form → Reader ⊤

@@ -10,7 +10,7 @@ use Rattle.smt_theory.specs.Operator.{operator_named, truth_named}
 use Rattle.smt_words.specs.declared.error.What.TheVariants.{BadShape, UnknownSymbol, WideNumeral}
 use Rattle.smt_names.specs.declared.head.Head.{Head}
 use Rattle.smt_names.specs.declared.head.Head.TheVariants as head
-use Rattle.smt_names.specs.Table.{Symbol, meaning_of}
+use Rattle.smt_names.specs.Table.{Symbol, Meaning, Declared, Defined, Function, meaning_of}
 use Rattle.smt_names.specs.Text.{bare, number_in}
 use Rattle.smt_names.specs.Reading.{Reader, done, refused}
 use Rattle.smt_names.specs.Names.{value_of, local_of}
@@ -49,11 +49,20 @@ theory_head (Some o) truth = head.Operator o
 theory_head None true = head.Constant
 theory_head None false = head.Unknown
 
--- a name as a head: one that stands for a term takes no arguments
+-- a symbol in force as a head: a function takes arguments, and a name that stands for a term none
+abbrev pub meant_head : Meaning → Head
+meant_head (Declared t sort) = head.Constant
+meant_head (Defined t) = head.Constant
+meant_head (Function params body) = head.Function
+
+abbrev pub symbol_head : Option Meaning → Head → Head
+symbol_head None other = other
+symbol_head (Some m) other = meant_head m
+
+-- a name as a head: a bound one stands for a term
 abbrev pub head_named : Scopes → List Symbol → List ℕ → Head
 head_named scopes symbols name =
-    if is_some (local_of scopes name) then head.Constant else
-    if is_some (meaning_of symbols name) then head.Constant else theory_head (operator_named name) (is_some (truth_named name))
+    if is_some (local_of scopes name) then head.Constant else symbol_head (meaning_of symbols name) (theory_head (operator_named name) (is_some (truth_named name)))
 
 -- a simple symbol as a head: `let` and `!` begin forms of their own
 abbrev pub head_word : Scopes → List Symbol → List ℕ → Head

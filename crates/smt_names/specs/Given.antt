@@ -11,7 +11,7 @@ use Rattle.smt_names.specs.Reading.{State, Reader}
 
 -- the state over the trees of a store
 abbrev pub seen : List Tree → StateId → State
-seen ts s = record { symbols = symbols_in ts s.symbols; bound = trees_of ts s.bound }
+seen ts s = record { symbols = symbols_in ts s.symbols; bound = trees_of ts s.bound; in_body = s.in_body }
 
 -- the scopes over the trees of a store
 abbrev pub scopes_in : List Tree → List (List Entry) → List (List Symbol)

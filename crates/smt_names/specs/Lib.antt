@@ -4,5 +4,6 @@ pub mod Reading
 pub mod Names
 pub mod Atoms
 pub mod Applied
+pub mod Called
 pub mod Annotated
 pub mod Given

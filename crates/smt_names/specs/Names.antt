@@ -9,15 +9,16 @@ use Rattle.std.specs.Map.{lookup}
 use Rattle.std.specs.Str.{bytes_eq}
 use Rattle.smt_names.specs.declared.meaning.Meaning.{Meaning as MeaningId}
 use Rattle.smt_names.specs.declared.meaning.Meaning.TheVariants as meaning
-use Rattle.smt_names.specs.Table.{Entry, Symbol, Meaning, Declared, Defined, meaning_of}
+use Rattle.smt_names.specs.Table.{Entry, Symbol, Meaning, Declared, Defined, Function, meaning_of}
 use Rattle.smt_names.specs.Text.{name_of, is_name_text}
 use Rattle.smt_names.specs.Reading.{refusal}
 
--- the term that a name stands for
+-- the term that a symbol stands for; a function stands for none
 abbrev pub constant_of : Option Meaning → Option Tree
 constant_of None = None
 constant_of (Some (Declared t sort)) = Some t
 constant_of (Some (Defined t)) = Some t
+constant_of (Some (Function params body)) = None
 
 -- the first one, if there is one, or else the other
 abbrev pub or_next : {A : Type 0} → Option A → Option A → Option A
@@ -61,14 +62,15 @@ abbrev pub bound_name : List Symbol → ℕ → Form → Result (List ℕ) Scrip
 bound_name scope at form = free_name at (place_of form) (is_bound scope) (name_of form)
 
 -- ---- over the numbers of the code
--- the number of the term that a name stands for
-abbrev pub meant_id : MeaningId → ℕ
-meant_id (meaning.Declared id sort) = id
-meant_id (meaning.Defined id) = id
+-- the number of the term that a symbol stands for; a function stands for none
+abbrev pub meant_id : MeaningId → Option ℕ
+meant_id (meaning.Declared id sort) = Some id
+meant_id (meaning.Defined id) = Some id
+meant_id (meaning.Function params id) = None
 
 abbrev pub constant_id : Option MeaningId → Option ℕ
 constant_id None = None
-constant_id (Some m) = Some (meant_id m)
+constant_id (Some m) = meant_id m
 
 -- the number of the term that a bound name stands for
 unfoldable pub local_id : List (List Entry) → List ℕ → Option ℕ

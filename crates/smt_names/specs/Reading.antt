@@ -1,14 +1,16 @@
 -- Readings one after the other: each goes on from the symbols and the terms so far, and the first refusal ends them.
-use Rattle.std.specs.Prelude.{ℕ, List, Result, Ok, Err}
+use Rattle.std.specs.Prelude.{ℕ, Bool, List, Result, Ok, Err}
 use Rattle.qterm.specs.Tree.{Tree}
 use Rattle.smt_words.specs.declared.error.ScriptError.{ScriptError}
 use Rattle.smt_words.specs.declared.error.What.{What}
 use Rattle.smt_names.specs.Table.{Symbol}
 
--- the symbols in force, and the terms that count though they needn't stand in what is read: those that `let` binds
+-- the symbols in force, the terms that count though they needn't stand in what is read, and whether it is the body of a function, in which
+-- no term gets a name
 pub record State : Type 0 where
   pub symbols : List Symbol
   pub bound : List Tree
+  pub in_body : Bool
 
 -- what is read from a state, with the state behind it, or the refusal
 abbrev pub Reader : Type 0 → Type 0

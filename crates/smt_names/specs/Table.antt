@@ -2,16 +2,18 @@
 use Rattle.std.specs.Prelude.{ℕ, List, map, All, Option}
 use Rattle.std.specs.Map.{lookup}
 use Rattle.std.specs.Str.{bytes_eq}
+use Rattle.qterm.specs.declared.name.Name.{Name}
 use Rattle.qterm.specs.declared.name.Sort.{Sort}
 use Rattle.qterm.specs.Tree.{Tree}
 use Rattle.qterm.specs.Store.{tree_at, Has}
 use Rattle.smt_names.specs.declared.meaning.Meaning.{Meaning as MeaningId}
 use Rattle.smt_names.specs.declared.meaning.Meaning.TheVariants as meaning
 
--- what a symbol means: a declared constant of a sort, or a term that it stands for
+-- what a symbol means: a declared constant of a sort, a term that it stands for, or a function of parameters with its body
 pub data Meaning : Type 0 where
   Declared : Tree → Sort → Meaning
   Defined : Tree → Meaning
+  Function : List Name → Tree → Meaning
 
 -- texts with numbers of terms, and texts with terms
 abbrev pub Entry : Type 0
@@ -24,6 +26,7 @@ Symbol = List ℕ × Meaning
 abbrev pub meaning_in : List Tree → MeaningId → Meaning
 meaning_in ts (meaning.Declared id sort) = Declared (tree_at ts id) sort
 meaning_in ts (meaning.Defined id) = Defined (tree_at ts id)
+meaning_in ts (meaning.Function params id) = Function params (tree_at ts id)
 
 -- a symbol over the trees of a store
 abbrev pub symbol_in : List Tree → Entry → Symbol
@@ -37,6 +40,7 @@ symbols_in ts es = map (symbol_in ts) es
 abbrev pub IsThere : List Tree → MeaningId → Type 0
 IsThere ts (meaning.Declared id sort) = Has ts id
 IsThere ts (meaning.Defined id) = Has ts id
+IsThere ts (meaning.Function params id) = Has ts id
 
 -- the numbers of all meanings are there
 abbrev pub AreThere : List Tree → List Entry → Type 0

@@ -6,6 +6,7 @@ ghost use Rattle.strat_text.specs.Form.{form_of, forms_of};
 ghost use Rattle.smt_names.specs.Annotated as spec;
 ghost use Rattle.smt_names.specs.Given.{IsIn, Gives, Goes, Refuses, seen};
 ghost use Rattle.smt_names.specs.Reading.{State as States};
+ghost use Rattle.smt_names.specs.Table.{IsThere, meaning_in};
 
 use crate::form::{keyword, same};
 use crate::meaning::Meaning;
@@ -110,8 +111,8 @@ fn attribute(
     }
 }
 
-/// Gives the term the new name that an s-expression is.
-pub fn name_term(
+/// Gives the term the new name that an s-expression is, unless it stands in the body of a function.
+fn name_term(
     alloc: Global,
     bytes: &[u8],
     value: &Sexp,
@@ -124,10 +125,30 @@ pub fn name_term(
     ensures bound { state.new.bound ≡ state.old.bound }
     ensures goes { (ts : List Tree) → Has ts id → IsIn ts state.old → Goes ts state.old ts state.new }
 {
-    match new_name(bytes, &state.symbols, at, value) {
+    if state.in_body {
+        return Err(refused(What::BadShape, at));
+    }
+    define(alloc, bytes, value, at, Meaning::Defined(id), state)
+}
+
+/// Gives a meaning to the new name that an s-expression is.
+pub fn define(
+    alloc: Global,
+    bytes: &[u8],
+    name: &Sexp,
+    at: usize,
+    meaning: Meaning,
+    state: &mut State,
+) -> Result<(), ReadError>
+    ensures read { (ts : List Tree) → Gives (λ _. tt) ts state.new result (spec.newly at (meaning_in ts meaning) (form_of bytes.now name.now) (seen ts state.old)) }
+    ensures scopes { state.new.scopes ≡ state.old.scopes }
+    ensures bound { state.new.bound ≡ state.old.bound }
+    ensures goes { (ts : List Tree) → IsThere ts meaning → IsIn ts state.old → Goes ts state.old ts state.new }
+{
+    match new_name(bytes, &state.symbols, at, name) {
         Err(fault) => Err(fault),
         Ok(name) => {
-            state.symbols.add(alloc, name, Meaning::Defined(id))?;
+            state.symbols.add(alloc, name, meaning)?;
             Ok(())
         }
     }

@@ -136,7 +136,7 @@ fn is_allowed(store: &Store, operator: Operator, ids: &[TermId]) -> bool
 }
 
 /// The place of the item with this number, counted from 0.
-fn place_at(bytes: &[u8], items: &[Sexp], at: usize) -> usize
+pub(crate) fn place_at(bytes: &[u8], items: &[Sexp], at: usize) -> usize
     ensures { result ≡ text.place_at (forms_of bytes.now items.now) at }
 {
     if at < items.len() {

@@ -15,6 +15,8 @@ pub enum Head {
     Annotated,
     /// A symbol that stands for a term, and takes no arguments.
     Constant,
+    /// A symbol that stands for a function.
+    Function,
     /// An operator of Core or Ints.
     Operator(Operator),
 }

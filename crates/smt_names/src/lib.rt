@@ -7,6 +7,7 @@
 mod annotation;
 mod application;
 mod binding;
+mod calling;
 mod form;
 mod head;
 mod meaning;
@@ -14,15 +15,16 @@ mod naming;
 mod state;
 mod table;
 
-pub use annotation::{annotate, name_term};
+pub use annotation::{annotate, define};
 pub use application::{apply, atom};
 pub use binding::{Binding, bind, pair};
+pub use calling::call;
 pub use form::{
     bare, digits, is_name_text, keyword, may_be_term, may_be_terms, name, name_in, number, place,
     string, text_at,
 };
 pub use head::Head;
-pub use meaning::Meaning;
+pub use meaning::{Meaning, Params};
 pub use naming::{bound_name, head_of, new_name, value};
 pub use state::{Bound, Scopes, State};
 pub use table::Table;

@@ -11,7 +11,7 @@ ghost use Rattle.smt_theory.specs.Plain.{IsPlain};
 ghost use Rattle.smt_names.specs.Names as spec;
 ghost use Rattle.smt_names.specs.Atoms as atoms;
 ghost use Rattle.smt_names.specs.Given.{IsIn, Refuses, scopes_in};
-ghost use Rattle.smt_names.specs.Table.{symbols_in};
+ghost use Rattle.smt_names.specs.Table.{meaning_in, symbols_in};
 
 use crate::form::{bare, is_name_text, name, place, same, text_at};
 use crate::head::Head;
@@ -65,6 +65,7 @@ pub fn bound_name<'a>(
     sexp: &Sexp,
 ) -> Result<&'a [u8], ReadError>
     ensures name { (ts : List Tree) → MatchResult result (λ name. spec.bound_name (symbols_in ts scope.now) at (form_of bytes.now sexp.now) ≡ Ok name.now) (λ e. Refuses e (spec.bound_name (symbols_in ts scope.now) at (form_of bytes.now sexp.now))) }
+    ensures allowed { IfOk result (λ name. IsNameText name.now) }
     ensures absent { IfOk result (λ name. lookup (bytes_eq name.now) scope.now ≡ None) }
 {
     match name(bytes, sexp) {
@@ -86,18 +87,19 @@ fn constant(table: &Table, name: &[u8]) -> Option<TermId>
     ensures { result ≡ spec.constant_id (lookup (bytes_eq name.now) table.now) }
 {
     match table.find(name) {
-        Some(meaning) => Some(meant(&meaning)),
+        Some(meaning) => meant(meaning),
         None => None,
     }
 }
 
-/// The term that a meaning stands for.
-fn meant(meaning: &Meaning) -> TermId
+/// The term that a meaning stands for, unless it is a function.
+fn meant(meaning: &Meaning) -> Option<TermId>
     ensures { result ≡ spec.meant_id meaning.now }
 {
     match meaning {
-        Meaning::Declared(id, _) => *id,
-        Meaning::Defined(id) => *id,
+        Meaning::Declared(id, _) => Some(*id),
+        Meaning::Defined(id) => Some(*id),
+        Meaning::Function(_, _) => None,
     }
 }
 
@@ -190,11 +192,21 @@ fn head_named(name: &[u8], state: &State) -> Head
     ensures { (ts : List Tree) → result ≡ atoms.head_named (scopes_in ts state.now.scopes) (symbols_in ts state.now.symbols) name.now }
 {
     if state.scopes.find(name).is_some() {
-        Head::Constant
-    } else if state.symbols.has(name) {
-        Head::Constant
-    } else {
-        theory_head(name)
+        return Head::Constant;
+    }
+    match state.symbols.find(name) {
+        Some(meaning) => meant_head(meaning),
+        None => theory_head(name),
+    }
+}
+
+/// A symbol in force as a head: a function takes arguments, and a name that stands for a term none.
+fn meant_head(meaning: &Meaning) -> Head
+    ensures { (ts : List Tree) → result ≡ atoms.meant_head (meaning_in ts meaning.now) }
+{
+    match meaning {
+        Meaning::Declared(_, _) | Meaning::Defined(_) => Head::Constant,
+        Meaning::Function(_, _) => Head::Function,
     }
 }
 

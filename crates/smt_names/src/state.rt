@@ -91,6 +91,15 @@ impl Bound {
         Ok(())
     }
 
+    /// More terms.
+    pub fn extend(&mut self, ids: &[TermId]) -> Result<(), AllocError>
+        ensures ok { OnOk result (self.new ≡ self.old ++ ids.now) }
+        ensures err { OnErr result (self.new ≡ self.old) }
+    {
+        self.ids.extend_from_slice(ids)?;
+        Ok(())
+    }
+
     /// The ids in order.
     pub fn as_slice(&self) -> &[TermId]
         ensures { result.now ≡ self.now }
@@ -106,6 +115,8 @@ pub struct State {
     pub symbols: Table,
     /// The scopes round the term that is read.
     pub scopes: Scopes,
-    /// The terms that `let` binds.
+    /// The terms that count though they needn't stand in what is read: those that `let` binds, and arguments.
     pub bound: Bound,
+    /// Whether the term is the body of a function, in which no term gets a name.
+    pub in_body: bool,
 }

@@ -1,5 +1,5 @@
 //! Texts with meanings, looked up by hash.
-ghost use Rattle.std.specs.Prelude.{◌≡◌, ◌<◌, [], ◌∷◌, ◌++◌, None, OnOk, OnErr, length, take, is_some};
+ghost use Rattle.std.specs.Prelude.{◌≡◌, ◌<◌, [], ◌∷◌, ◌++◌, None, Some, MatchOption, OnOk, OnErr, length, take, is_some};
 ghost use Rattle.std.specs.Map.{lookup};
 ghost use Rattle.std.specs.Str.{bytes_eq};
 
@@ -34,10 +34,10 @@ impl Table {
     }
 
     /// The meaning of a text.
-    pub fn find(&self, text: &[u8]) -> Option<Meaning>
-        ensures { result ≡ lookup (bytes_eq text.now) self.now }
+    pub fn find(&self, text: &[u8]) -> Option<&Meaning>
+        ensures { MatchOption result (lookup (bytes_eq text.now) self.now ≡ None) (λ meaning. lookup (bytes_eq text.now) self.now ≡ Some meaning.now) }
     {
-        self.meanings.get(text).copied()
+        self.meanings.get(text)
     }
 
     /// Whether a text has a meaning.

@@ -1,7 +1,8 @@
 -- What turns answer for readings.
 use Rattle.std.proofs.Common.{◌≡◌, ◌<◌, ◌≤◌, ℕ, List, [], ◌∷◌, All, append-nil, Result, Ok, Err, refl, ap, sym, subst, ◌∙◌, arith}
 use Rattle.qterm.specs.Tree.{Tree}
-use Rattle.qterm.specs.Store.{tree_at, Extends}
+use Rattle.std.specs.Prelude.{IfOk}
+use Rattle.qterm.specs.Store.{tree_at, Has, Extends}
 use Rattle.qterm.proofs.Alls.{All-tail}
 use Rattle.qterm.proofs.Extending.{Extends_refl}
 use Rattle.smt_words.specs.declared.error.ScriptError.{ScriptError}
@@ -11,7 +12,7 @@ use Rattle.smt_names.specs.declared.state.State.{State as StateId}
 use Rattle.smt_names.specs.Table.{Entry, AreThere}
 use Rattle.smt_names.specs.Text.{behind_first}
 use Rattle.smt_names.specs.Reading.{State, Reader}
-use Rattle.smt_names.specs.Given.{Answers, IsIn, Goes, seen}
+use Rattle.smt_names.specs.Given.{Answers, Gives, IsIn, Goes, seen}
 use Rattle.smt_names.proofs.Readings.{seen_extends}
 use Rattle.smt_term.specs.declared.frame.Turn.{Turn}
 use Rattle.smt_term.specs.Turns.{Turns, done_with}
@@ -27,6 +28,13 @@ pub turns_same : (bytes : List ℕ) (base : List (List Entry)) (bound : ℕ) (us
     → reading ≡ r → Turns bytes base bound us t r answer → Turns bytes base bound us t reading answer
 turns_same bytes base bound us t r reading answer e h = subst (λ x. Turns bytes base bound us t x answer) (sym e) h
 
+-- a term that a reading gives, in the scopes that were there
+pub turns_given : (bytes : List ℕ) (base : List (List Entry)) (bound : ℕ) (us : List Tree) (t : StateId) (answer : Result ℕ ReadError) (reading : Result (Tree × State) ScriptError) → 1 < bound → t.scopes ≡ base → IfOk answer (Has us)
+    → Gives (tree_at us) us t answer reading → Turns bytes base bound us t reading (done_with answer)
+turns_given bytes base bound us t (Ok id) reading l is h a = record { reads = a; scopes = is; has = h; below = l }
+turns_given bytes base bound us t (Err (Refused f)) reading l is h a = a
+turns_given bytes base bound us t (Err (Memory cause)) reading l is h a = tt
+
 -- a term that is there at once
 pub turns_done : (bytes : List ℕ) (bound : ℕ) (ts us : List Tree) (s : StateId) (answer : Result ℕ ReadError) (reading : Reader Tree) → 1 < bound → Extends ts us → IsIn ts s
     → Answers us (seen ts s) answer reading → Turns bytes s.scopes bound us s (reading (seen ts s)) (done_with answer)
@@ -35,7 +43,7 @@ turns_done bytes bound ts us s (Err (Refused f)) reading l e there a = a
 turns_done bytes bound ts us s (Err (Memory cause)) reading l e there a = tt
 
 -- a scope is left
-pub goes_left : (ts : List Tree) (s : StateId) (scopes : List (List Entry)) → IsIn ts s → scopes ≡ behind_first s.scopes → Goes ts s ts (record { symbols = s.symbols; scopes = scopes; bound = s.bound })
+pub goes_left : (ts : List Tree) (s : StateId) (scopes : List (List Entry)) → IsIn ts s → scopes ≡ behind_first s.scopes → Goes ts s ts (record s { scopes = scopes })
 goes_left ts s scopes there is = record {
   extends = Extends_refl ts;
   there = record { symbols = there.symbols; scopes = subst (All (AreThere ts)) (sym is) (left s.scopes there.scopes); bound = there.bound };

@@ -1,14 +1,13 @@
 -- What lists come to, by their first item and what stands behind it.
-use Rattle.std.proofs.Common.{◌≡◌, ◌<◌, ◌≤◌, ◌+◌, ◌-◌, ℕ, take, drop, get_or, length, ◌==◌, true, false, IsTrue, List, [], ◌∷◌, ◌++◌, Option, Result, Ok, Err, refl, ap, sym, subst, ◌∙◌, append_assoc, append-nil, arith}
+use Rattle.std.proofs.Common.{◌≡◌, ◌<◌, ◌≤◌, ◌+◌, ◌-◌, ℕ, take, drop, get_or, length, ◌==◌, true, false, IsTrue, List, [], ◌∷◌, ◌++◌, Result, Ok, Err, refl, ap, sym, subst, ◌∙◌, append_assoc, append-nil, arith}
 use Rattle.std.proofs.lemmas.Bool.{eqb-true}
 use Rattle.std.proofs.lemmas.List.{drop_all, take_rest}
 use Rattle.sexp_read.specs.declared.sexp.AtomKind.{AtomKind}
 use Rattle.sexp_read.specs.declared.sexp.Sexp.{Sexp}
 use Rattle.sexp_read.specs.declared.sexp.Sexp.TheVariants as sexp
 use Rattle.qterm.specs.Tree.{Tree}
-use Rattle.strat_text.specs.Form.{Form, atom, list, Forms, none, more, form_of, forms_of, place_of}
+use Rattle.strat_text.specs.Form.{Form, atom, list, Forms, none, more, form_of, forms_of}
 use Rattle.strat_text.proofs.Levels.{form_of_list}
-use Rattle.smt_theory.specs.declared.operator.Operator.{Operator}
 use Rattle.smt_words.specs.declared.error.ScriptError.{ScriptError}
 use Rattle.smt_words.specs.declared.error.What.TheVariants.{BadShape}
 use Rattle.smt_words.specs.declared.error.ReadError.{ReadError}
@@ -24,7 +23,8 @@ use Rattle.smt_names.specs.Annotated.{bind, only, some_attributes, pair_of}
 use Rattle.smt_names.proofs.Forms.{split_at}
 use Rattle.smt_names.proofs.Readings.{refuses_next}
 use Rattle.smt_term.specs.Term.{read_term, read_list, read_args, read_let, read_annotated, read_bindings, bindings_in, read_binding, read_pair, read_body, by_head}
-use Rattle.smt_term.specs.Frames.{IsTermFirst, over_all, over_rest, bind_rest, weight, weights}
+use Rattle.smt_term.specs.Callee.{Callee, over_all}
+use Rattle.smt_term.specs.Frames.{IsTermFirst, over_rest, bind_rest, weight, weights}
 
 -- what stands behind the first item of a list
 abbrev pub behind_item : List Sexp → List Sexp
@@ -66,35 +66,35 @@ weights_items bytes items x some is = ap weights (forms_more bytes items x some 
 -- a list by its head
 pub list_by_head : (S : Scopes) (bytes : List ℕ) (items : List Sexp) (first : Sexp) (at : ℕ) (s : State) (head : Head) → 1 ≤ length items → first ≡ get_or items 0 first → head ≡ head_of S s.symbols (form_of bytes first)
     → read_list S (forms_of bytes items) at s
-    ≡ by_head at (place_of (form_of bytes first)) (forms_of bytes (behind_item items)) (read_args S (forms_of bytes (behind_item items))) (read_let S (forms_of bytes (behind_item items)) at) (read_annotated S (forms_of bytes (behind_item items)) at) head s
+    ≡ by_head at (form_of bytes first) (forms_of bytes (behind_item items)) (read_args S (forms_of bytes (behind_item items))) (read_let S (forms_of bytes (behind_item items)) at) (read_annotated S (forms_of bytes (behind_item items)) at) head s
 unfolding read_list
 list_by_head S bytes items first at s head some is h =
     let forms = forms_of bytes (behind_item items) in
     ap (λ fs. read_list S fs at s) (forms_more bytes items first some is)
-    ∙ ap (λ x. by_head at (place_of (form_of bytes first)) forms (read_args S forms) (read_let S forms at) (read_annotated S forms at) x s) (sym h)
+    ∙ ap (λ x. by_head at (form_of bytes first) forms (read_args S forms) (read_let S forms at) (read_annotated S forms at) x s) (sym h)
 
 -- ---- arguments
 -- the arguments from a place on read the same
-pub over_from : (S : Scopes) (operator : Option Operator) (at : ℕ) (args rest later : Forms) (front : List Tree) (s : State) → read_args S rest s ≡ read_args S later s
-    → over_rest S operator at args rest front s ≡ over_rest S operator at args later front s
-over_from S operator at args rest later front s h = ap (λ r. and_then r (λ ts. over_all operator at args (front ++ ts))) h
+pub over_from : (S : Scopes) (callee : Callee) (at : ℕ) (args rest later : Forms) (front : List Tree) (s : State) → read_args S rest s ≡ read_args S later s
+    → over_rest S callee at args rest front s ≡ over_rest S callee at args later front s
+over_from S callee at args rest later front s h = ap (λ r. and_then r (λ ts. over_all callee at args (front ++ ts))) h
 
 -- none is left
-pub over_none : (S : Scopes) (operator : Option Operator) (at : ℕ) (args : Forms) (front : List Tree) (s : State) → over_rest S operator at args none front s ≡ over_all operator at args front s
+pub over_none : (S : Scopes) (callee : Callee) (at : ℕ) (args : Forms) (front : List Tree) (s : State) → over_rest S callee at args none front s ≡ over_all callee at args front s
 unfolding read_args
-over_none S operator at args front s = ap (λ ts. over_all operator at args ts s) (append-nil front)
+over_none S callee at args front s = ap (λ ts. over_all callee at args ts s) (append-nil front)
 
 -- an argument that may be a term
-pub over_more : (S : Scopes) (operator : Option Operator) (at : ℕ) (args : Forms) (form : Form) (forms : Forms) (front : List Tree) (s : State) → IsTrue (may_be_term form)
-    → over_rest S operator at args (more form forms) front s ≡ and_then (read_term S form 0 s) (λ t. over_rest S operator at args forms (front ++ t ∷ []))
+pub over_more : (S : Scopes) (callee : Callee) (at : ℕ) (args : Forms) (form : Form) (forms : Forms) (front : List Tree) (s : State) → IsTrue (may_be_term form)
+    → over_rest S callee at args (more form forms) front s ≡ and_then (read_term S form 0 s) (λ t. over_rest S callee at args forms (front ++ t ∷ []))
 unfolding read_args
-over_more S operator at args form forms front s may = rw may (read (read_term S form 0 s))
+over_more S callee at args form forms front s may = rw may (read (read_term S form 0 s))
   where
-    all : (t : Tree) (r : Result (List Tree × State) ScriptError) → and_then (and_then r (λ ts. done (t ∷ ts))) (λ ts. over_all operator at args (front ++ ts)) ≡ and_then r (λ ts. over_all operator at args (front ++ t ∷ [] ++ ts))
-    all t (Ok p) = ap (λ ts. over_all operator at args ts p.1) (sym (append_assoc front (t ∷ []) p.0))
+    all : (t : Tree) (r : Result (List Tree × State) ScriptError) → and_then (and_then r (λ ts. done (t ∷ ts))) (λ ts. over_all callee at args (front ++ ts)) ≡ and_then r (λ ts. over_all callee at args (front ++ t ∷ [] ++ ts))
+    all t (Ok p) = ap (λ ts. over_all callee at args ts p.1) (sym (append_assoc front (t ∷ []) p.0))
     all t (Err e) = refl
 
-    read : (r : Result (Tree × State) ScriptError) → and_then (and_then r (λ t. after (read_args S forms) (λ ts. done (t ∷ ts)))) (λ ts. over_all operator at args (front ++ ts)) ≡ and_then r (λ t. over_rest S operator at args forms (front ++ t ∷ []))
+    read : (r : Result (Tree × State) ScriptError) → and_then (and_then r (λ t. after (read_args S forms) (λ ts. done (t ∷ ts)))) (λ ts. over_all callee at args (front ++ ts)) ≡ and_then r (λ t. over_rest S callee at args forms (front ++ t ∷ []))
     read (Ok p) = all p.0 (read_args S forms p.1)
     read (Err e) = refl
 

@@ -13,11 +13,11 @@ use Rattle.smt_term.specs.declared.frame.Frame.TheVariants as frame
 use Rattle.smt_term.specs.declared.frame.Turn.{Turn}
 use Rattle.smt_term.specs.declared.frame.Turn.TheVariants as turn
 use Rattle.smt_term.specs.Frames.{FrameTree, Applying, Binding, Body, Annotating, around, goes_on}
-use Rattle.smt_term.specs.Turns.{frame_in, frames_in, IsFrame, turn_around}
+use Rattle.smt_term.specs.Turns.{callee_in, frame_in, frames_in, IsFrame, turn_around}
 
 -- a frame keeps its terms
 pub frame_extends : (bytes : List ℕ) (ts us : List Tree) (f : Frame) → Extends ts us → IsFrame ts f → frame_in bytes us f ≡ frame_in bytes ts f
-frame_extends bytes ts us (frame.Application a) e h = ap (λ front. Applying a.operator (forms_of bytes a.args.now) (forms_of bytes a.rest.now) front a.at) (trees_of_extends ts us a.ids.items e h)
+frame_extends bytes ts us (frame.Application a) e h = ap (λ front. Applying (callee_in a.callee) (forms_of bytes a.args.now) (forms_of bytes a.rest.now) front a.at) (trees_of_extends ts us a.ids.items e h)
 frame_extends bytes ts us (frame.Bindings b) e h = ap (λ scope. Binding b.name.now scope (forms_of bytes b.rest.now) (forms_of bytes b.body.now) b.list_at b.at) (symbols_extends ts us b.scope e h.0)
 frame_extends bytes ts us (frame.Body at rest) e h = refl
 frame_extends bytes ts us (frame.Annotation at rest) e h = refl
@@ -38,7 +38,7 @@ AreFrames_extends ts us fs e h = All-weaker (IsFrame ts) (IsFrame us) fs (λ f p
 
 -- ---- the scopes round frames
 around_scopes : (ts : List Tree) (f : FrameTree) (scopes : List (List Entry)) → around f (scopes_in ts scopes) ≡ scopes_in ts (around f scopes)
-around_scopes ts (Applying operator args rest front at) scopes = refl
+around_scopes ts (Applying callee args rest front at) scopes = refl
 around_scopes ts (Binding name scope rest body list_at at) scopes = refl
 around_scopes ts (Body rest at) [] = refl
 around_scopes ts (Body rest at) (scope ∷ scopes) = refl
@@ -54,7 +54,7 @@ frame_scopes bytes ts f scopes = around_scopes ts (frame_in bytes ts f) scopes
 
 -- their numbers are there
 pub around_there : (ts : List Tree) (f : FrameTree) (scopes : List (List Entry)) → All (AreThere ts) scopes → All (AreThere ts) (around f scopes)
-around_there ts (Applying operator args rest front at) scopes h = h
+around_there ts (Applying callee args rest front at) scopes h = h
 around_there ts (Binding name scope rest body list_at at) scopes h = h
 around_there ts (Body rest at) [] h = h
 around_there ts (Body rest at) (scope ∷ scopes) h = All-tail (AreThere ts) scope scopes h

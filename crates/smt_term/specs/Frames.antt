@@ -1,21 +1,19 @@
 -- What waits for a term, and how reading goes on behind it: the frames round a form, the innermost first.
-use Rattle.std.specs.Prelude.{ℕ, ◌+◌, List, [], ◌∷◌, ◌++◌, Option, None, Some, IsTrue, ⊤}
+use Rattle.std.specs.Prelude.{ℕ, ◌+◌, List, [], ◌∷◌, ◌++◌, IsTrue, ⊤}
 use Rattle.qterm.specs.Tree.{Tree}
 use Rattle.strat_text.specs.Form.{Form, atom, list, Forms, none, more}
-use Rattle.smt_theory.specs.declared.operator.Operator.{Operator}
-use Rattle.smt_words.specs.declared.error.What.TheVariants.{BadShape}
 use Rattle.smt_names.specs.Table.{Symbol}
 use Rattle.smt_names.specs.Text.{behind_first, may_be_term}
-use Rattle.smt_names.specs.Reading.{Reader, done, refused, after}
+use Rattle.smt_names.specs.Reading.{Reader, done, after}
 use Rattle.smt_names.specs.Atoms.{Scopes}
-use Rattle.smt_names.specs.Applied.{applied}
 use Rattle.smt_names.specs.Annotated.{bind, only, some_attributes}
+use Rattle.smt_term.specs.Callee.{Callee, over_all}
 use Rattle.smt_term.specs.Term.{read_args, read_bindings, read_body}
 
 -- what waits for a term, with the forms behind that term
 pub data FrameTree : Type 0 where
-  -- an operator, or none where the head takes no arguments, all arguments, those that are left, the terms so far, and a place
-  Applying : Option Operator → Forms → Forms → List Tree → ℕ → FrameTree
+  -- what takes the arguments, all of them, those that are left, the terms so far, and a place
+  Applying : Callee → Forms → Forms → List Tree → ℕ → FrameTree
   -- a name, the bindings so far, those that are left, what stands behind the bindings, the place of their list, and that of the `let`
   Binding : List ℕ → List Symbol → Forms → Forms → ℕ → ℕ → FrameTree
   -- what stands behind the term in which bindings hold, and a place
@@ -23,14 +21,9 @@ pub data FrameTree : Type 0 where
   -- attributes, and a place
   Annotating : Forms → ℕ → FrameTree
 
--- a head over the terms that its arguments are
-abbrev pub over_all : Option Operator → ℕ → Forms → List Tree → Reader Tree
-over_all None at args ts = refused BadShape at
-over_all (Some o) at args ts = applied at o args ts
-
--- a head over its arguments, of which the terms of the first ones are there
-abbrev pub over_rest : Scopes → Option Operator → ℕ → Forms → Forms → List Tree → Reader Tree
-over_rest scopes operator at args rest front = after (read_args scopes rest) (λ ts. over_all operator at args (front ++ ts))
+-- a callee over its arguments, of which the terms of the first ones are there
+abbrev pub over_rest : Scopes → Callee → ℕ → Forms → Forms → List Tree → Reader Tree
+over_rest scopes callee at args rest front = after (read_args scopes rest) (λ ts. over_all callee at args (front ++ ts))
 
 -- bindings behind those so far, of a list at a place, and the term in which they hold
 abbrev pub bind_rest : Scopes → ℕ → ℕ → Forms → Forms → List Symbol → Reader Tree
@@ -38,14 +31,14 @@ bind_rest scopes at list_at body rest scope = after (read_bindings scopes rest l
 
 -- what a frame reads once the term is there for which it waits
 abbrev pub with_term : Scopes → FrameTree → Tree → Reader Tree
-with_term scopes (Applying operator args rest front at) t = over_rest scopes operator at args rest (front ++ t ∷ [])
+with_term scopes (Applying callee args rest front at) t = over_rest scopes callee at args rest (front ++ t ∷ [])
 with_term scopes (Binding name scope rest body list_at at) t = after (bind name t) (λ symbol. bind_rest scopes at list_at body rest (scope ++ symbol ∷ []))
 with_term scopes (Body rest at) t = only at rest t
 with_term scopes (Annotating rest at) t = some_attributes at rest t
 
 -- the scopes round a frame, of those inside it
 abbrev pub around : {A : Type 0} → FrameTree → List A → List A
-around (Applying operator args rest front at) scopes = scopes
+around (Applying callee args rest front at) scopes = scopes
 around (Binding name scope rest body list_at at) scopes = scopes
 around (Body rest at) scopes = behind_first scopes
 around (Annotating rest at) scopes = scopes
@@ -78,7 +71,7 @@ unfoldable mutual
 
 -- what a frame has left
 abbrev pub left_in : FrameTree → ℕ
-left_in (Applying operator args rest front at) = 1 + weights rest
+left_in (Applying callee args rest front at) = 1 + weights rest
 left_in (Binding name scope rest body list_at at) = 1 + (weights rest + weights body)
 left_in (Body rest at) = 1
 left_in (Annotating rest at) = 1

@@ -1,3 +1,4 @@
+pub mod Callee
 pub mod Term
 pub mod Frames
 pub mod Turns

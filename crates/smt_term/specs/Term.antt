@@ -7,21 +7,22 @@ use Rattle.smt_words.specs.declared.error.What.TheVariants.{BadShape, UnknownSym
 use Rattle.smt_names.specs.declared.head.Head.{Head}
 use Rattle.smt_names.specs.declared.head.Head.TheVariants as head
 use Rattle.smt_names.specs.Table.{Symbol}
-use Rattle.smt_names.specs.Text.{may_be_term}
+use Rattle.smt_names.specs.Text.{name_of, may_be_term}
 use Rattle.smt_names.specs.Reading.{Reader, done, refused, after, tested}
 use Rattle.smt_names.specs.Names.{bound_name}
 use Rattle.smt_names.specs.Atoms.{Scopes, read_atom, head_of}
-use Rattle.smt_names.specs.Applied.{applied}
 use Rattle.smt_names.specs.Annotated.{bind, only, some_attributes}
+use Rattle.smt_term.specs.Callee.{Nothing, Over, function_of, over_all}
 
 -- a form by its head, its arguments and what these are read as
-abbrev pub by_head : ℕ → ℕ → Forms → Reader (List Tree) → Reader Tree → Reader Tree → Head → Reader Tree
-by_head at place args terms binding annotated head.NoSymbol = refused BadShape at
-by_head at place args terms binding annotated head.Unknown = refused UnknownSymbol place
-by_head at place args terms binding annotated head.Let = binding
-by_head at place args terms binding annotated head.Annotated = annotated
-by_head at place args terms binding annotated head.Constant = after terms (λ ts. refused BadShape at)
-by_head at place args terms binding annotated (head.Operator o) = after terms (applied at o args)
+abbrev pub by_head : ℕ → Form → Forms → Reader (List Tree) → Reader Tree → Reader Tree → Head → Reader Tree
+by_head at first args terms binding annotated head.NoSymbol = refused BadShape at
+by_head at first args terms binding annotated head.Unknown = refused UnknownSymbol (place_of first)
+by_head at first args terms binding annotated head.Let = binding
+by_head at first args terms binding annotated head.Annotated = annotated
+by_head at first args terms binding annotated head.Constant = after terms (over_all Nothing at args)
+by_head at first args terms binding annotated head.Function = after terms (over_all (function_of (name_of first)) at args)
+by_head at first args terms binding annotated (head.Operator o) = after terms (over_all (Over o) at args)
 
 unfoldable mutual
   -- a form as a term, standing in the list at the place `at`
@@ -32,7 +33,7 @@ unfoldable mutual
   -- a list as a term
   pub read_list : Scopes → Forms → ℕ → Reader Tree
   read_list scopes none at = refused BadShape at
-  read_list scopes (more first args) at = λ s. by_head at (place_of first) args (read_args scopes args) (read_let scopes args at) (read_annotated scopes args at) (head_of scopes s.symbols first) s
+  read_list scopes (more first args) at = λ s. by_head at first args (read_args scopes args) (read_let scopes args at) (read_annotated scopes args at) (head_of scopes s.symbols first) s
 
   -- each of the arguments that may be a term, as one
   pub read_args : Scopes → Forms → Reader (List Tree)

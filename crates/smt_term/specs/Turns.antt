@@ -15,12 +15,21 @@ use Rattle.smt_term.specs.declared.frame.Frame.{Frame}
 use Rattle.smt_term.specs.declared.frame.Frame.TheVariants as frame
 use Rattle.smt_term.specs.declared.frame.Turn.{Turn}
 use Rattle.smt_term.specs.declared.frame.Turn.TheVariants as turn
+use Rattle.smt_term.specs.declared.frame.Callee.{Callee as CalleeId}
+use Rattle.smt_term.specs.declared.frame.Callee.TheVariants as callee
+use Rattle.smt_term.specs.Callee.{Callee, Nothing, Over, Named}
 use Rattle.smt_term.specs.Term.{read_term}
 use Rattle.smt_term.specs.Frames.{FrameTree, Applying, Binding, Body, Annotating, with_term, around, outside, goes_on, weight, left_in, left_in_all}
 
+-- a callee as definitions have it
+abbrev pub callee_in : CalleeId → Callee
+callee_in callee.Nothing = Nothing
+callee_in (callee.Operator o) = Over o
+callee_in (callee.Function name) = Named name.now
+
 -- a frame over the bytes that were read and the trees of a store
 abbrev pub frame_in : List ℕ → List Tree → Frame → FrameTree
-frame_in bytes ts (frame.Application a) = Applying a.operator (forms_of bytes a.args.now) (forms_of bytes a.rest.now) (trees_of ts a.ids.items) a.at
+frame_in bytes ts (frame.Application a) = Applying (callee_in a.callee) (forms_of bytes a.args.now) (forms_of bytes a.rest.now) (trees_of ts a.ids.items) a.at
 frame_in bytes ts (frame.Bindings b) = Binding b.name.now (symbols_in ts b.scope) (forms_of bytes b.rest.now) (forms_of bytes b.body.now) b.list_at b.at
 frame_in bytes ts (frame.Body at rest) = Body (forms_of bytes rest.now) at
 frame_in bytes ts (frame.Annotation at rest) = Annotating (forms_of bytes rest.now) at

@@ -1,43 +1,43 @@
 //! Arguments, from left to right.
-ghost use Rattle.std.specs.Prelude.{◌≡◌, ◌+◌, ◌++◌, ◌∷◌, ◌≤◌, [], All, OnOk};
-ghost use Rattle.qterm.specs.Store.{Has, Extends, tree_at, trees_of};
+ghost use Rattle.std.specs.Prelude.{◌≡◌, ◌+◌, ◌++◌, ◌∷◌, ◌≤◌, [], All, IfOk, OnOk};
+ghost use Rattle.qterm.specs.Store.{Has, tree_at, trees_of};
 ghost use Rattle.strat_text.specs.Form.{forms_of};
 ghost use Rattle.smt_names.specs.Atoms.{Scopes};
-ghost use Rattle.smt_names.specs.Given.{IsIn, Answers, scopes_in, seen};
+ghost use Rattle.smt_names.specs.Given.{IsIn, Gives, Goes, scopes_in, seen};
 ghost use Rattle.smt_names.specs.Reading.{State as States};
-ghost use Rattle.smt_term.specs.Frames.{IsTermFirst, over_all, over_rest, weights};
+ghost use Rattle.smt_term.specs.Callee.{over_all};
+ghost use Rattle.smt_term.specs.Frames.{IsTermFirst, over_rest, weights};
 ghost use Rattle.smt_term.specs.Term as spec;
-ghost use Rattle.smt_term.specs.Turns.{Turns};
+ghost use Rattle.smt_term.specs.Turns.{Turns, callee_in};
 
-use crate::frame::{Application, Frame, Turn};
+use crate::frame::{Application, Callee, Frame, Turn};
 use crate::list::done;
 use qterm::{Store, TermId};
 use sexp_read::Sexp;
-use smt_names::{State, apply, may_be_term};
-use smt_theory::Operator;
+use smt_names::{State, apply, call, may_be_term};
 use smt_words::{ReadError, What, refused};
 use std::alloc::{AllocError, Global};
 
-/// Begins the arguments of a head.
+/// Begins the arguments of a callee.
 pub(crate) fn start_application<'a>(
     alloc: Global,
     bytes: &'a [u8],
-    operator: Option<Operator>,
+    callee: Callee<'a>,
     args: &'a [Sexp],
     at: usize,
-    state: &State,
+    state: &mut State,
     store: &mut Store,
 ) -> Result<Turn<'a>, ReadError>
-    requires there { IsIn store.old state.now }
-    ensures turns { Turns bytes.now state.now.scopes (1 + (1 + weights (forms_of bytes.now args.now))) store.new state.now (over_rest (scopes_in store.old state.now.scopes) operator at (forms_of bytes.now args.now) (forms_of bytes.now args.now) [] (seen store.old state.now)) result }
-    ensures extends { Extends store.old store.new }
+    requires there { IsIn store.old state.old }
+    ensures turns { Turns bytes.now state.old.scopes (1 + (1 + weights (forms_of bytes.now args.now))) store.new state.new (over_rest (scopes_in store.old state.old.scopes) (callee_in callee.entry) at (forms_of bytes.now args.now) (forms_of bytes.now args.now) [] (seen store.old state.old)) result }
+    ensures goes { Goes store.old state.old store.new state.new }
 {
     let ids = Vec::new(alloc);
     next_argument(
         alloc,
         bytes,
         Application {
-            operator,
+            callee,
             at,
             args,
             rest: args,
@@ -54,17 +54,17 @@ pub(crate) fn resume_application<'a>(
     bytes: &'a [u8],
     application: Application<'a>,
     id: TermId,
-    state: &State,
+    state: &mut State,
     store: &mut Store,
 ) -> Result<Turn<'a>, ReadError>
-    requires there { IsIn store.old state.now }
+    requires there { IsIn store.old state.old }
     requires ids { All (Has store.old) application.ids.items }
     requires has { Has store.old id }
-    ensures turns { Turns bytes.now state.now.scopes (1 + (1 + weights (forms_of bytes.now application.entry.rest.now))) store.new state.now (over_rest (scopes_in store.old state.now.scopes) application.entry.operator application.entry.at (forms_of bytes.now application.entry.args.now) (forms_of bytes.now application.entry.rest.now) (trees_of store.old application.entry.ids.items ++ tree_at store.old id ∷ []) (seen store.old state.now)) result }
-    ensures extends { Extends store.old store.new }
+    ensures turns { Turns bytes.now state.old.scopes (1 + (1 + weights (forms_of bytes.now application.entry.rest.now))) store.new state.new (over_rest (scopes_in store.old state.old.scopes) (callee_in application.entry.callee) application.entry.at (forms_of bytes.now application.entry.args.now) (forms_of bytes.now application.entry.rest.now) (trees_of store.old application.entry.ids.items ++ tree_at store.old id ∷ []) (seen store.old state.old)) result }
+    ensures goes { Goes store.old state.old store.new state.new }
 {
     let Application {
-        operator,
+        callee,
         at,
         args,
         rest,
@@ -75,7 +75,7 @@ pub(crate) fn resume_application<'a>(
         alloc,
         bytes,
         Application {
-            operator,
+            callee,
             at,
             args,
             rest,
@@ -94,31 +94,31 @@ fn push(ids: &mut Vec<TermId>, id: TermId) -> Result<(), AllocError>
     Ok(())
 }
 
-/// Begins the next argument that may be a term, or applies the head where none is left.
+/// Begins the next argument that may be a term, or applies the callee where none is left.
 fn next_argument<'a>(
     alloc: Global,
     bytes: &'a [u8],
     application: Application<'a>,
-    state: &State,
+    state: &mut State,
     store: &mut Store,
 ) -> Result<Turn<'a>, ReadError>
-    requires there { IsIn store.old state.now }
+    requires there { IsIn store.old state.old }
     requires ids { All (Has store.old) application.ids.items }
-    ensures turns { Turns bytes.now state.now.scopes (1 + (1 + weights (forms_of bytes.now application.entry.rest.now))) store.new state.now (over_rest (scopes_in store.old state.now.scopes) application.entry.operator application.entry.at (forms_of bytes.now application.entry.args.now) (forms_of bytes.now application.entry.rest.now) (trees_of store.old application.entry.ids.items) (seen store.old state.now)) result }
-    ensures extends { Extends store.old store.new }
+    ensures turns { Turns bytes.now state.old.scopes (1 + (1 + weights (forms_of bytes.now application.entry.rest.now))) store.new state.new (over_rest (scopes_in store.old state.old.scopes) (callee_in application.entry.callee) application.entry.at (forms_of bytes.now application.entry.args.now) (forms_of bytes.now application.entry.rest.now) (trees_of store.old application.entry.ids.items) (seen store.old state.old)) result }
+    ensures goes { Goes store.old state.old store.new state.new }
 {
     let Application {
-        operator,
+        callee,
         at,
         args,
         rest,
         ids,
     } = application;
     match from_term(bytes, rest) {
-        [] => done(apply_head(alloc, bytes, operator, args, at, &ids, store)),
+        [] => done(applied(alloc, bytes, callee, args, at, &ids, state, store)),
         [sexp, behind @ ..] => Ok(Turn::Down {
             frame: Frame::Application(Application {
-                operator,
+                callee,
                 at,
                 args,
                 rest: behind,
@@ -130,23 +130,28 @@ fn next_argument<'a>(
     }
 }
 
-/// A head over the terms of its arguments: an operator is applied, any other head takes none.
-fn apply_head(
+/// A callee over the terms of its arguments.
+fn applied(
     alloc: Global,
     bytes: &[u8],
-    operator: Option<Operator>,
+    callee: Callee,
     args: &[Sexp],
     at: usize,
     ids: &[TermId],
+    state: &mut State,
     store: &mut Store,
 ) -> Result<TermId, ReadError>
+    requires there { IsIn store.old state.old }
     requires has { All (Has store.old) ids.now }
-    ensures read { (s : States) → Answers store.new s result (over_all operator at (forms_of bytes.now args.now) (trees_of store.old ids.now)) }
-    ensures extends { Extends store.old store.new }
+    ensures read { Gives (tree_at store.new) store.new state.new result (over_all (callee_in callee.entry) at (forms_of bytes.now args.now) (trees_of store.old ids.now) (seen store.old state.old)) }
+    ensures has { IfOk result (Has store.new) }
+    ensures scopes { state.new.scopes ≡ state.old.scopes }
+    ensures goes { Goes store.old state.old store.new state.new }
 {
-    match operator {
-        None => Err(refused(What::BadShape, at)),
-        Some(operator) => apply(alloc, bytes, operator, args, at, ids, store),
+    match callee {
+        Callee::Nothing => Err(refused(What::BadShape, at)),
+        Callee::Operator(operator) => apply(alloc, bytes, operator, args, at, ids, store),
+        Callee::Function(name) => call(alloc, bytes, name, args, at, ids, state, store),
     }
 }
 

@@ -5,11 +5,22 @@ use sexp_read::Sexp;
 use smt_names::Table;
 use smt_theory::Operator;
 
+/// What takes the arguments of a list.
+#[derive(Clone, Copy)]
+pub(crate) enum Callee<'a> {
+    /// Nothing: the head stands for a term.
+    Nothing,
+    /// An operator of Core or Ints.
+    Operator(Operator),
+    /// The function of this name.
+    Function(&'a [u8]),
+}
+
 /// A list with arguments, of which one is read.
 #[derive(Drop)]
 pub(crate) struct Application<'a> {
-    /// The operator, or none where the head takes no arguments.
-    pub operator: Option<Operator>,
+    /// What takes the arguments.
+    pub callee: Callee<'a>,
     /// The place of the list.
     pub at: usize,
     /// All arguments.

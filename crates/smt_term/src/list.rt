@@ -1,18 +1,20 @@
 //! What begins to be read: atoms are terms at once, and lists by their heads.
 ghost use Rattle.std.specs.Prelude.{◌≡◌, ◌+◌};
+ghost use Rattle.std.specs.Option.{option_copied};
 ghost use Rattle.strat_text.specs.Form.{form_of, forms_of};
 ghost use Rattle.smt_names.specs.Given.{IsIn, Goes, scopes_in, seen};
+ghost use Rattle.smt_term.specs.Callee.{function_of};
 ghost use Rattle.smt_term.specs.Frames.{weight, weights};
 ghost use Rattle.smt_term.specs.Term as spec;
-ghost use Rattle.smt_term.specs.Turns.{Turns, done_with};
+ghost use Rattle.smt_term.specs.Turns.{Turns, callee_in, done_with};
 
 use crate::annotated::start_annotated;
 use crate::argument::start_application;
 use crate::bindings::start_let;
-use crate::frame::Turn;
+use crate::frame::{Callee, Turn};
 use qterm::{Store, TermId};
 use sexp_read::Sexp;
-use smt_names::{Head, State, atom, head_of, place, text_at};
+use smt_names::{Head, State, atom, head_of, name, place, text_at};
 use smt_words::{ReadError, What, refused};
 use std::alloc::Global;
 
@@ -74,10 +76,27 @@ fn start_list<'a>(
             Head::Unknown => Err(refused(What::UnknownSymbol, place(bytes, first))),
             Head::Let => start_let(alloc, bytes, args, at, state),
             Head::Annotated => start_annotated(args, at),
-            Head::Constant => start_application(alloc, bytes, None, args, at, state, store),
+            Head::Constant => {
+                start_application(alloc, bytes, Callee::Nothing, args, at, state, store)
+            }
+            Head::Function => {
+                let callee = function(name(bytes, first));
+                start_application(alloc, bytes, callee, args, at, state, store)
+            }
             Head::Operator(operator) => {
-                start_application(alloc, bytes, Some(operator), args, at, state, store)
+                let callee = Callee::Operator(operator);
+                start_application(alloc, bytes, callee, args, at, state, store)
             }
         },
+    }
+}
+
+/// The function of the name that a head is.
+fn function<'a>(name: Option<&'a [u8]>) -> Callee<'a>
+    ensures { callee_in result ≡ function_of (option_copied name.entry) }
+{
+    match name {
+        Some(name) => Callee::Function(name),
+        None => Callee::Nothing,
     }
 }

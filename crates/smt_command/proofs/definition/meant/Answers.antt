@@ -19,7 +19,7 @@ returns-in_err-id-in-len1-up-clause-read c =
     let form = form_of bytes c.form-item.result in
     rw (forms_split bytes c.args.rest.now c.form-item.result c.in-len1-up.len_at_least c.form-item.is)
     (gives_handed (command_tree us) us c.read_term.new.state c.in_err-id-in-len1-up.field-0.0 (read_term (scopes_in ts s.scopes) form c.args.at (seen ts s))
-    (defined c.args.at (form_of bytes c.args.name.now) c.args.sort (place_of form) (forms_of bytes (args_of c.args.rest.now))) c.from_residual.result c.from_residual.ensures.1 c.in_err-id-in-len1-up.ensures.read)
+    (defined c.args.at (form_of bytes c.args.name.now) c.args.params c.args.sort (place_of form) (forms_of bytes (args_of c.args.rest.now))) c.from_residual.result c.from_residual.ensures.1 c.in_err-id-in-len1-up.ensures.read)
 
 pub returns-in_ok-id-in-len1-up-clause-read : goal.returns-in_ok-id-in-len1-up-clause-read
 returns-in_ok-id-in-len1-up-clause-read c =
@@ -32,7 +32,7 @@ returns-in_ok-id-in-len1-up-clause-read c =
     let rest = forms_of bytes (args_of c.args.rest.now) in
     let t = tree_at us c.in_ok-id-in-len1-up.id in
     subst (Gives (command_tree us) us c.defined.new.state c.defined.result)
-    (sym (ap (λ fs. meant S c.args.at name c.args.sort fs (seen ts s)) (forms_split bytes c.args.rest.now c.form-item.result c.in-len1-up.len_at_least c.form-item.is)
-    ∙ ap (λ r. and_then r (defined c.args.at name c.args.sort (place_of (form_of bytes c.form-item.result)) rest)) c.in_ok-id-in-len1-up.ensures.read
-    ∙ ap (λ p. defined c.args.at name c.args.sort p rest t (seen us c.read_term.new.state)) (sym c.place-place.ensures)))
+    (sym (ap (λ fs. meant S c.args.at name c.args.params c.args.sort fs (seen ts s)) (forms_split bytes c.args.rest.now c.form-item.result c.in-len1-up.len_at_least c.form-item.is)
+    ∙ ap (λ r. and_then r (defined c.args.at name c.args.params c.args.sort (place_of (form_of bytes c.form-item.result)) rest)) c.in_ok-id-in-len1-up.ensures.read
+    ∙ ap (λ p. defined c.args.at name c.args.params c.args.sort p rest t (seen us c.read_term.new.state)) (sym c.place-place.ensures)))
     c.defined.ensures.read

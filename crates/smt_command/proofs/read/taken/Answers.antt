@@ -11,7 +11,7 @@ use Rattle.smt_command.proofs.read.taken.Goals as goal
 pub returns-in_err-command-clause-read : goal.returns-in_err-command-clause-read
 returns-in_err-command-clause-read c =
     let b = c.begin.ensures in
-    taken_fault (option_copied c.args.reducers) c.args.bytes.now c.args.sexp.now c.args.store.now c.args.symbols.now c.begin.new.self.state c.len-levels.result b.symbols b.scopes b.bound (c.len-levels.ensures ∙ ap length b.levels)
+    taken_fault (option_copied c.args.reducers) c.args.bytes.now c.args.sexp.now c.args.store.now c.args.symbols.now c.begin.new.self.state c.len-levels.result b.symbols b.scopes b.bound b.in_body (c.len-levels.ensures ∙ ap length b.levels)
     c.read_sexp.new.store (record { state = c.read_sexp.new.state; levels = c.begin.new.self.levels }) c.in_err-command.field-0.0 c.from_residual.result c.from_residual.ensures.1 c.in_err-command.ensures.read
 
 pub settle-requires-clause-lawful : goal.settle-requires-clause-lawful
@@ -19,13 +19,13 @@ settle-requires-clause-lawful c =
     let b = c.begin.ensures in
     let us = c.read_sexp.new.store in
     subst (λ n. IsLawful n (command_tree us c.in_ok-command.command)) (sym (ap length b.levels))
-    (taken_lawful (option_copied c.args.reducers) c.args.bytes.now c.args.sexp.now c.args.store.now c.args.symbols.now c.begin.new.self.state c.len-levels.result b.symbols b.scopes b.bound (c.len-levels.ensures ∙ ap length b.levels)
+    (taken_lawful (option_copied c.args.reducers) c.args.bytes.now c.args.sexp.now c.args.store.now c.args.symbols.now c.begin.new.self.state c.len-levels.result b.symbols b.scopes b.bound b.in_body (c.len-levels.ensures ∙ ap length b.levels)
     us c.read_sexp.new.state c.in_ok-command.command c.in_ok-command.ensures.read)
 
 pub settle-requires-clause-new : goal.settle-requires-clause-new
 settle-requires-clause-new c =
     let b = c.begin.ensures in
-    taken_new (option_copied c.args.reducers) c.args.bytes.now c.args.sexp.now c.args.store.now c.args.symbols.now c.begin.new.self.state c.len-levels.result b.symbols b.scopes b.bound (c.len-levels.ensures ∙ ap length b.levels)
+    taken_new (option_copied c.args.reducers) c.args.bytes.now c.args.sexp.now c.args.store.now c.args.symbols.now c.begin.new.self.state c.len-levels.result b.symbols b.scopes b.bound b.in_body (c.len-levels.ensures ∙ ap length b.levels)
     c.read_sexp.new.store c.read_sexp.new.state c.in_ok-command.command c.in_ok-command.ensures.read
 
 pub returns-in_err-settle-clause-read : goal.returns-in_err-settle-clause-read
@@ -33,7 +33,7 @@ returns-in_err-settle-clause-read c =
     let b = c.begin.ensures in
     let us = c.read_sexp.new.store in
     let e = c.in_err-settle.field-0.0 in
-    taken_deep (option_copied c.args.reducers) c.args.bytes.now c.args.sexp.now c.args.store.now c.args.symbols.now c.begin.new.self.state c.len-levels.result b.symbols b.scopes b.bound (c.len-levels.ensures ∙ ap length b.levels)
+    taken_deep (option_copied c.args.reducers) c.args.bytes.now c.args.sexp.now c.args.store.now c.args.symbols.now c.begin.new.self.state c.len-levels.result b.symbols b.scopes b.bound b.in_body (c.len-levels.ensures ∙ ap length b.levels)
     us c.read_sexp.new.state c.in_ok-command.command c.in_ok-command.ensures.read
     c.settle.new.store c.settle.new.symbols e c.from_residual-in_err-settle.result c.from_residual-in_err-settle.ensures.1
     (subst (λ p. Refuses e (limited p (terms_of (command_tree us c.in_ok-command.command) ++ trees_of us c.read_sexp.new.state.bound))) c.start.ensures c.in_err-settle.ensures.settled)
@@ -44,6 +44,6 @@ returns-clause-read c =
     let given = c.in_ok-settle.ensures in
     let us = c.read_sexp.new.store in
     let kept = ap (λ p. limited p (terms_of (command_tree us c.in_ok-command.command) ++ trees_of us c.read_sexp.new.state.bound)) (sym c.start.ensures) ∙ given.settled in
-    taken_read (option_copied c.args.reducers) c.args.bytes.now c.args.sexp.now c.args.store.now c.args.symbols.now c.begin.new.self.state c.len-levels.result b.symbols b.scopes b.bound (c.len-levels.ensures ∙ ap length b.levels)
+    taken_read (option_copied c.args.reducers) c.args.bytes.now c.args.sexp.now c.args.store.now c.args.symbols.now c.begin.new.self.state c.len-levels.result b.symbols b.scopes b.bound b.in_body (c.len-levels.ensures ∙ ap length b.levels)
     c.read_sexp.new.store c.read_sexp.new.state c.in_ok-command.command c.in_ok-command.ensures.read
     c.settle.new.store (record { state = c.read_sexp.new.state; levels = c.begin.new.self.levels }) c.settle.new.symbols refl b.levels kept given.changed given.extends c.in_ok-command.ensures.in_store

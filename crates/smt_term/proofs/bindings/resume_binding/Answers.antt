@@ -2,6 +2,7 @@ use Rattle.std.proofs.Common.{◌∙◌, ◌+◌, ◌++◌, ◌∷◌, [], List,
 use Rattle.qterm.specs.Tree.{Tree}
 use Rattle.qterm.specs.Store.{tree_at}
 use Rattle.strat_text.specs.Form.{forms_of}
+use Rattle.smt_names.specs.declared.meaning.Meaning.TheVariants as meaning
 use Rattle.smt_names.specs.Given.{scopes_in, seen}
 use Rattle.smt_names.specs.Reading.{Reader, and_then}
 use Rattle.smt_names.specs.Table.{Entry, Symbol, Defined, symbols_in}
@@ -26,5 +27,5 @@ returns-clause-turns c = λ ts there has.
     (ap (λ r. and_then r (K (scopes_in ts old.scopes))) (c.in_ok-bind.ensures.read ts))
     (subst (λ (R : List (List Entry)). Turns bytes R bound ts c.next_binding.new.state (K (scopes_in ts R) new t) c.next_binding.result) (ap (λ u. u.scopes) c.in_ok-bind.ensures.state)
     (turns_same bytes c.bind.new.state.scopes bound ts _ _ _ c.next_binding.result
-    (ap (λ scope. bind_rest (scopes_in ts c.bind.new.state.scopes) b.at b.list_at body rest scope t) (sym (ap (symbols_in ts) c.in_ok-bind.ensures.scope ∙ with_name_in ts b.scope b.name.now c.args.id)))
+    (ap (λ scope. bind_rest (scopes_in ts c.bind.new.state.scopes) b.at b.list_at body rest scope t) (sym (ap (symbols_in ts) c.in_ok-bind.ensures.scope ∙ with_name_in ts b.scope b.name.now (meaning.Defined c.args.id))))
     (c.next_binding.ensures.turns ts (c.in_ok-bind.ensures.there ts has there))))
