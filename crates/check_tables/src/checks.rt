@@ -20,6 +20,7 @@ use strat_text::{ProbeExpr, ReducerName, Strategy};
 use tac_basic::{FailReducer, Skip};
 use tac_bounds::{AddBounds, DropWide};
 use tac_cert::cert_fits;
+use tac_normal::NormalizeBounds;
 use tac_sat::Sat;
 use tac_simplify::Simplify;
 
@@ -93,7 +94,7 @@ fn of_answer(answer: &Answer) -> Found {
 /// Assertions, a strategy, and what the check is to answer.
 type Row = (&'static str, &'static str, Found);
 
-const CHECKS: [Row; 40] = [
+const CHECKS: [Row; 47] = [
     ("pq|p!", "sat", Found::Sat),
     ("pq|p!q!", "sat", Found::Unsat),
     ("pp!", "(or-else fail (then skip sat))", Found::Unsat),
@@ -177,6 +178,25 @@ const CHECKS: [Row; 40] = [
         "x5<",
         "(then add-bounds (using-params drop-wide :drop_wide_max 0))",
         Found::Goals(1),
+    ),
+    ("", "normalize-bounds", Found::Sat),
+    ("F", "normalize-bounds", Found::Unsat),
+    ("2x<x5<", "normalize-bounds", Found::Goals(1)),
+    (
+        "2x<x5<",
+        "(then normalize-bounds (fail-if (and is-bounded (= size 2) (= max-bits 2))))",
+        Found::Told,
+    ),
+    (
+        "2x<x3<",
+        "(then normalize-bounds (fail-if (and is-01 (= size 2))))",
+        Found::Told,
+    ),
+    ("2x<x3<", "(then simplify (fail-if is-01))", Found::Goals(1)),
+    (
+        "x5<",
+        "(then (using-params add-bounds :add_bound_lower 4) normalize-bounds (fail-if is-01))",
+        Found::Told,
     ),
 ];
 
@@ -377,7 +397,12 @@ pub fn built(alloc: Global) -> Result<Registry, AllocError> {
         Box::new(alloc, DropWide)?,
     );
     let sat = registry.insert(ReducerName::new(alloc, b"sat")?, Box::new(alloc, Sat)?);
-    if is_in(skip) && is_in(fail) && is_in(simplify) && is_in(bounds) && is_in(wide) && is_in(sat) {
+    let normal = registry.insert(
+        ReducerName::new(alloc, b"normalize-bounds")?,
+        Box::new(alloc, NormalizeBounds)?,
+    );
+    let is_first = is_in(skip) && is_in(fail) && is_in(simplify) && is_in(bounds);
+    if is_first && is_in(wide) && is_in(sat) && is_in(normal) {
         Ok(registry)
     } else {
         Err(AllocError)

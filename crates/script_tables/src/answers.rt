@@ -96,7 +96,7 @@ const FOUR_CLAUSES: [Row; 2] = [
 ];
 
 /// Scripts over an integer.
-const NUMBERS: [Row; 6] = [
+const NUMBERS: [Row; 7] = [
     (
         "(assert (< (* 2 x) 5))(apply simplify)",
         0,
@@ -132,6 +132,12 @@ const NUMBERS: [Row; 6] = [
         0,
         1,
         "sat\n(\n  (define-fun x () Int 0)\n)\n((x 0) ((+ x 5) 5) ((<= x 0) true))\n",
+    ),
+    (
+        "(assert (<= 3 x))(assert (<= x 10))(apply normalize-bounds)",
+        0,
+        1,
+        "(goals\n(goal precise\n  (<= (- x!0) 0)\n  (<= x!0 7)\n)\n)\n",
     ),
 ];
 

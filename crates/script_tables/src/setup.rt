@@ -10,6 +10,7 @@ use std::thread::Threads;
 use strat_text::ReducerName;
 use tac_basic::{FailReducer, Skip};
 use tac_bounds::{AddBounds, DropWide};
+use tac_normal::NormalizeBounds;
 use tac_sat::Sat;
 use tac_simplify::Simplify;
 
@@ -60,6 +61,12 @@ pub fn built(alloc: Global) -> Result<Registry, AllocError> {
         &mut registry,
         b"simplify",
         Box::new(alloc, Simplify)?,
+    )?;
+    add(
+        alloc,
+        &mut registry,
+        b"normalize-bounds",
+        Box::new(alloc, NormalizeBounds)?,
     )?;
     add(
         alloc,

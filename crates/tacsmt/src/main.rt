@@ -12,6 +12,7 @@ use std::{env, io};
 use strat_text::ReducerName;
 use tac_basic::{FailReducer, Skip};
 use tac_bounds::{AddBounds, DropWide};
+use tac_normal::NormalizeBounds;
 use tac_sat::Sat;
 use tac_simplify::Simplify;
 
@@ -39,6 +40,12 @@ fn reducers(alloc: Global) -> Result<Registry, AllocError> {
         &mut registry,
         b"simplify",
         Box::new(alloc, Simplify)?,
+    )?;
+    add(
+        alloc,
+        &mut registry,
+        b"normalize-bounds",
+        Box::new(alloc, NormalizeBounds)?,
     )?;
     add(
         alloc,

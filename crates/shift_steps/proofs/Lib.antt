@@ -1,0 +1,11 @@
+pub mod Numbers
+pub mod Putting
+pub mod Equations
+pub mod Canonical
+pub mod Stepping
+pub mod Apart
+pub mod Giving
+pub mod Tables
+pub mod Moving
+pub mod Occurring
+pub mod Leaving
