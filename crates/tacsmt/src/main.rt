@@ -3,11 +3,12 @@
 //! This is the trusted edge: it makes the reducers, the real source and sink, calls the top call and ends with its status.
 #![tactic(auto)]
 
-use reducer_iface::{BoxedReducer, Registry};
-use script_run::{Finished, run};
-use sexp_read::{StdSink, StdSource};
+use reducer_iface::Registry;
+use script_run::run;
+use sexp_read::{Sink, Source, StdSink, StdSource};
 use std::alloc::{AllocError, Global};
 use std::process::ExitCode;
+use std::thread::Threads;
 use std::{env, io};
 use strat_text::ReducerName;
 use tac_basic::{FailReducer, Skip};
@@ -21,59 +22,51 @@ const NO_MEMORY: u8 = 3;
 
 fn main(rt: HostRuntime) -> ExitCode {
     let words = words(&rt);
-    let Ok(registry) = reducers(rt.alloc()) else {
-        return ExitCode::from(NO_MEMORY);
-    };
     let mut script = StdSource::new(rt.reader());
     let mut out = StdSink::new(io::writer(&rt));
-    let Finished { status, .. } = run(&rt, rt.alloc(), &words, &registry, &mut script, &mut out);
-    ExitCode::from(status)
-}
-
-// The reducers that are built, by their names.
-fn reducers(alloc: Global) -> Result<Registry, AllocError> {
-    let mut registry = Registry::new(alloc);
-    add(alloc, &mut registry, b"skip", Box::new(alloc, Skip)?)?;
-    add(alloc, &mut registry, b"fail", Box::new(alloc, FailReducer)?)?;
-    add(
-        alloc,
-        &mut registry,
-        b"simplify",
-        Box::new(alloc, Simplify)?,
-    )?;
-    add(
-        alloc,
-        &mut registry,
-        b"normalize-bounds",
-        Box::new(alloc, NormalizeBounds)?,
-    )?;
-    add(
-        alloc,
-        &mut registry,
-        b"add-bounds",
-        Box::new(alloc, AddBounds)?,
-    )?;
-    add(
-        alloc,
-        &mut registry,
-        b"drop-wide",
-        Box::new(alloc, DropWide)?,
-    )?;
-    add(alloc, &mut registry, b"sat", Box::new(alloc, Sat)?)?;
-    Ok(registry)
-}
-
-// Inserts a reducer under its name.
-fn add(
-    alloc: Global,
-    registry: &mut Registry,
-    name: &[u8],
-    reducer: BoxedReducer,
-) -> Result<(), AllocError> {
-    match registry.insert(ReducerName::new(alloc, name)?, reducer) {
-        Ok(()) => Ok(()),
-        Err(_) => Err(AllocError),
+    match status(&rt, rt.alloc(), &words, &mut script, &mut out) {
+        Ok(status) => ExitCode::from(status),
+        Err(_) => ExitCode::from(NO_MEMORY),
     }
+}
+
+// Runs the words with the reducers that are built, and answers the status; an error where there is no memory for these.
+fn status(
+    rt: &impl Threads,
+    alloc: Global,
+    words: &[String],
+    script: &mut impl Source,
+    out: &mut impl Sink,
+) -> Result<u8, AllocError> {
+    let mut registry = Registry::new(alloc);
+    let inserted = [
+        registry.insert(ReducerName::new(alloc, b"skip")?, Box::new(alloc, Skip)?),
+        registry.insert(
+            ReducerName::new(alloc, b"fail")?,
+            Box::new(alloc, FailReducer)?,
+        ),
+        registry.insert(
+            ReducerName::new(alloc, b"simplify")?,
+            Box::new(alloc, Simplify)?,
+        ),
+        registry.insert(
+            ReducerName::new(alloc, b"normalize-bounds")?,
+            Box::new(alloc, NormalizeBounds)?,
+        ),
+        registry.insert(
+            ReducerName::new(alloc, b"add-bounds")?,
+            Box::new(alloc, AddBounds)?,
+        ),
+        registry.insert(
+            ReducerName::new(alloc, b"drop-wide")?,
+            Box::new(alloc, DropWide)?,
+        ),
+        registry.insert(ReducerName::new(alloc, b"sat")?, Box::new(alloc, Sat)?),
+    ];
+    if inserted.iter().any(|it| it.is_err()) {
+        return Err(AllocError);
+    }
+    Ok(run(rt, alloc, words, &registry, script, out).status)
 }
 
 // The words of the command line, without the program's name; one that is no text counts as a wrong word. There are none at all
