@@ -1,0 +1,6 @@
+mod Numerals
+mod Spaced
+mod Ends
+mod Symbols
+mod Passing
+mod Nesting
