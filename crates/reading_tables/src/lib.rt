@@ -9,6 +9,8 @@ mod functions;
 #[cfg(test)]
 mod levels;
 #[cfg(test)]
+mod many;
+#[cfg(test)]
 mod scripts;
 #[cfg(test)]
 mod terms;

@@ -38,6 +38,7 @@ use Rattle.smt_command.specs.Parameters.{Parameters, read_parameters, meaning_ov
 use Rattle.smt_command.specs.Reading.{Test, and, nothing_more, read_sort, most_levels, plain_command}
 use Rattle.tac_cert.specs.Depth.{depth}
 use Rattle.probe_set.specs.Measures.{deepest}
+use Rattle.term_limits.specs.Limits.{limit_of}
 use Rattle.smt_command.specs.Limits.{most_depth, terms_of, limited}
 use Rattle.smt_command.specs.Laws.{IsLawful, IsSpan, AreSpans, IsShallow, IsNew, levels_after}
 use Rattle.smt_command.specs.Terms.{stays, formula, assertion, with_parameters, counted, defined, meant, sorted, behind_name, is_new, definition, asked, asked_more, asked_from, all_asked, asked_row, asked_in, question, command_of, worded, with_name, read_items, read_layer, read_sexp, settled, read_command}
@@ -223,7 +224,7 @@ begun names bytes sexp ts old st levels symbols scopes bound in_body l = λ i. r
 
 -- how many levels are open behind a command
 pub changed_length : (c : CommandTree) (s : InForce) → IsLawful (length s.levels) c → length (changed c s).levels ≡ levels_after (length s.levels) c
-changed_length (Push n) s h = opened_length n s.levels s.symbols
+changed_length (Push n) s h = opened_length n s.levels s.symbols s.asserts
 changed_length (Pop n) s h = left_length n s.levels
 changed_length ResetAssertions s h = refl
 changed_length other s h = refl
@@ -250,19 +251,23 @@ deep_fault : (f : ScriptError) (u : ⊤) → (let r : Test ⊤ = Err f in r) ≡
 deep_fault f u e = cc
 
 -- a command that keeps the limits has a shallow assertion
-pub kept_shallow : (c : CommandTree) (at : ℕ) (bound : List Tree) (u : ⊤) → limited at (terms_of c ++ bound) ≡ Ok u → IsShallow c
-kept_shallow (Assert t) at bound u e = by (nat_lt most_depth (deepest (t ∷ bound))) refl
+pub kept_shallow : (c : CommandTree) (at : ℕ) (asserts bound : List Tree) (u : ⊤) → limited at asserts (terms_of c ++ bound) ≡ Ok u → IsShallow c
+unfolding limit_of
+kept_shallow (Assert t) at asserts bound u e = by (nat_lt most_depth (deepest (t ∷ bound))) refl
   where
     by : (b : Bool) → nat_lt most_depth (deepest (t ∷ bound)) ≡ b → depth t ≤ most_depth
     by true h = absurd (deep_fault (refusal TooDeep at) u (rw h at e))
     by false h = let most = not_more most_depth (max (depth t) (deepest bound)) h in omega (arith, most)
-kept_shallow other at bound u e = tt
+kept_shallow other at asserts bound u e = tt
 
-settled_gives : (bytes : List ℕ) (s : InForce) (at : ℕ) (r : Result (CommandTree × State) ScriptError) → IfOk r (IsRead (length s.levels) bytes) → IfOk (settled at s.levels r) (IsSettled bytes s)
-settled_gives bytes s at (Ok p) h = by (limited at (terms_of p.0 ++ p.1.bound)) refl
+settled_gives : (bytes : List ℕ) (s : InForce) (at : ℕ) (r : Result (CommandTree × State) ScriptError) → IfOk r (IsRead (length s.levels) bytes) → IfOk (settled at s r) (IsSettled bytes s)
+settled_gives bytes s at (Ok p) h = by (limited at s.asserts (terms_of p.0 ++ p.1.bound)) refl
   where
-    by : (r : Test ⊤) → limited at (terms_of p.0 ++ p.1.bound) ≡ r → IfOk (and r (λ _. Ok (p.0, changed p.0 (record { symbols = p.1.symbols; levels = s.levels })))) (IsSettled bytes s)
-    by (Ok u) e = record { lawful = h.lawful; spans = h.spans; shallow = kept_shallow p.0 at p.1.bound u e; levels = changed_length p.0 (record { symbols = p.1.symbols; levels = s.levels }) h.lawful }
+    behind : InForce
+    behind = record s { symbols = p.1.symbols }
+
+    by : (r : Test ⊤) → limited at s.asserts (terms_of p.0 ++ p.1.bound) ≡ r → IfOk (and r (λ _. Ok (p.0, changed p.0 (record s { symbols = p.1.symbols })))) (IsSettled bytes s)
+    by (Ok u) e = record { lawful = h.lawful; spans = h.spans; shallow = kept_shallow p.0 at s.asserts p.1.bound u e; levels = changed_length p.0 behind h.lawful }
     by (Err f) e = tt
 settled_gives bytes s at (Err e) h = tt
 

@@ -15,6 +15,7 @@ use Rattle.smt_names.specs.declared.state.State.{State as StateId}
 use Rattle.smt_names.specs.Table.{symbols_in}
 use Rattle.smt_names.specs.Reading.{State}
 use Rattle.smt_names.specs.Given.{Refuses, scopes_in, seen}
+use Rattle.term_limits.specs.Limits.{IsCounted}
 use Rattle.smt_command.specs.declared.symbols.Symbols.{Symbols}
 use Rattle.smt_command.specs.declared.reading.Found.TheVariants as found
 use Rattle.smt_command.specs.Change.{InForce, in_force, changed}
@@ -41,8 +42,8 @@ module _ (names : Names) (bytes : List ℕ) (sexp : Sexp) (ts : List Tree) (old 
   same : read_sexp names (scopes_in ts st.scopes) levels bytes sexp (seen ts st) ≡ read_sexp names [] (length old.levels) bytes sexp (record { symbols = symbols_in ts old.state.symbols; bound = []; in_body = false })
   same = begun names bytes sexp ts old st levels symbols scopes bound in_body l
 
-  settled_err : (e : ReadError) (r : Reading) → Refuses e r → Refuses e (settled (start_of sexp) old.levels r)
-  settled_err (Refused f) r h = ap (settled (start_of sexp) old.levels) h
+  settled_err : (e : ReadError) (r : Reading) → Refuses e r → Refuses e (settled (start_of sexp) (in_force ts old) r)
+  settled_err (Refused f) r h = ap (settled (start_of sexp) (in_force ts old)) h
   settled_err (Memory cause) r h = tt
 
   -- the refusal is that of the command
@@ -70,35 +71,38 @@ module _ (names : Names) (bytes : List ℕ) (sexp : Sexp) (ts : List Tree) (old 
 
     -- its terms, with those that count beside them
     abbrev held : Test ⊤
-    held = limited (start_of sexp) (terms_of (command_tree us c) ++ trees_of us u.bound)
+    held = limited (start_of sexp) (trees_of ts old.asserts.ids) (terms_of (command_tree us c) ++ trees_of us u.bound)
 
     -- what is in force behind it
+    abbrev behind : InForce
+    behind = record { symbols = symbols_in us u.symbols; asserts = trees_of ts old.asserts.ids; levels = old.levels }
+
     abbrev behind_it : Result (CommandTree × InForce) ScriptError
-    behind_it = Ok (command_tree us c, changed (command_tree us c) (record { symbols = symbols_in us u.symbols; levels = old.levels }))
+    behind_it = Ok (command_tree us c, changed (command_tree us c) behind)
 
-    -- a term is too deep
-    pub taken_deep : (vs : List Tree) (new : Symbols) (e : ReadError) (answer : Result Command ReadError) → IsErrAnd answer (λ told. told ≡ e) → Refuses e held → Reads vs new answer (read_command names bytes sexp (in_force ts old))
-    taken_deep vs new e (Ok d) told h = absurd told
-    taken_deep vs new e (Err d) told h =
+    -- the limits are passed
+    pub taken_past : (vs : List Tree) (new : Symbols) (e : ReadError) (answer : Result Command ReadError) → IsErrAnd answer (λ told. told ≡ e) → Refuses e held → Reads vs new answer (read_command names bytes sexp (in_force ts old))
+    taken_past vs new e (Ok d) told h = absurd told
+    taken_past vs new e (Err d) told h =
         subst (λ x. Refuses x (read_command names bytes sexp (in_force ts old))) (sym told)
-        (subst (Refuses e) (sym (ap (settled (start_of sexp) old.levels) (sym same ∙ given))) (refuses_and e held (λ _. behind_it) h))
+        (subst (Refuses e) (sym (ap (settled (start_of sexp) (in_force ts old)) (sym same ∙ given))) (refuses_and e held (λ _. behind_it) h))
 
     -- what is in force behind it
-    pub taken_read : (vs : List Tree) (mid new : Symbols) → mid.state.symbols ≡ u.symbols → mid.levels ≡ old.levels → held ≡ Ok tt → in_force vs new ≡ changed (command_tree us c) (in_force us mid) → Extends us vs → HasTerms us c
+    pub taken_read : (vs : List Tree) (mid new : Symbols) → mid.state.symbols ≡ u.symbols → trees_of us mid.asserts.ids ≡ trees_of ts old.asserts.ids → mid.levels ≡ old.levels → held ≡ Ok tt → in_force vs new ≡ changed (command_tree us c) (in_force us mid) → Extends us vs → HasTerms us c
         → read_command names bytes sexp (in_force ts old) ≡ Ok (command_tree vs c, in_force vs new)
-    taken_read vs mid new ms ml kept is e has =
-        let middle : in_force us mid ≡ record { symbols = symbols_in us u.symbols; levels = old.levels } = λ i. record { symbols = symbols_in us (ms i); levels = ml i } in
-        ap (settled (start_of sexp) old.levels) (sym same ∙ given)
+    taken_read vs mid new ms ma ml kept is e has =
+        let middle : in_force us mid ≡ behind = λ i. record { symbols = symbols_in us (ms i); asserts = ma i; levels = ml i } in
+        ap (settled (start_of sexp) (in_force ts old)) (sym same ∙ given)
         ∙ ap (λ r. and r (λ _. behind_it)) kept
         ∙ (λ i. Ok (sym (command_tree_extends us vs c e has) i, (sym (is ∙ ap (changed (command_tree us c)) middle)) i))
 
 -- ---- what stands at a place
 module _ (names : Names) (bytes : List ℕ) (s : InForce) (sexp : Sexp) (end place : ℕ) (is : place ≡ start_of sexp) where
   -- a command
-  pub found_command : (us : List Tree) (new : Symbols) (c : Command) → read_command names bytes sexp s ≡ Ok (command_tree us c, in_force us new) → HasTerms us c
+  pub found_command : (us : List Tree) (new : Symbols) (c : Command) → read_command names bytes sexp s ≡ Ok (command_tree us c, in_force us new) → HasTerms us c → IsCounted us new.asserts
       → IsFound us new (command_at names bytes s sexp end) (found.Goes (record { command = c; place = place }) end)
-  found_command us new c given has =
-      (ap (goes_to (start_of sexp) end) given ∙ ap (λ p. goes_to p end (Ok (command_tree us c, in_force us new))) (sym is), has)
+  found_command us new c given has counted =
+      (ap (goes_to (start_of sexp) end) given ∙ ap (λ p. goes_to p end (Ok (command_tree us c, in_force us new))) (sym is), has, counted)
 
   -- a refusal
   pub found_refusal : (us : List Tree) (new : Symbols) (e : ScriptError) → read_command names bytes sexp s ≡ Err e → IsFound us new (command_at names bytes s sexp end) (found.Ends (Some e))

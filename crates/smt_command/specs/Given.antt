@@ -12,6 +12,7 @@ use Rattle.smt_words.specs.declared.error.ScriptError.{ScriptError}
 use Rattle.smt_words.specs.declared.error.ReadError.{ReadError}
 use Rattle.smt_words.specs.Command.{CommandTree, command_tree, placed_tree}
 use Rattle.smt_names.specs.Given.{Refuses}
+use Rattle.term_limits.specs.Limits.{IsCounted}
 use Rattle.smt_command.specs.declared.symbols.Symbols.{Symbols}
 use Rattle.smt_command.specs.declared.reading.Found.{Found}
 use Rattle.smt_command.specs.declared.reading.Found.TheVariants as found
@@ -54,7 +55,7 @@ IsCommandIn ts bytes (Assert id) = HasSort Bool ts id × (depth (tree_at ts id) 
 IsCommandIn ts bytes (GetValue asked) = AreAsked ts asked × All (IsSpanIn bytes) asked
 IsCommandIn ts bytes other = ⊤
 
--- what stands at a place, with what is in force behind it
+-- what stands at a place, with what is in force behind a command, whose assertions are counted
 abbrev pub IsFound : List Tree → Symbols → First → Found → Type 0
 IsFound ts s first (found.Ends fault) = first ≡ Ends fault
-IsFound ts s first (found.Goes placed end) = (first ≡ Goes (placed_tree ts placed) end (in_force ts s)) × HasTerms ts placed.command
+IsFound ts s first (found.Goes placed end) = (first ≡ Goes (placed_tree ts placed) end (in_force ts s)) × HasTerms ts placed.command × IsCounted ts s.asserts

@@ -159,11 +159,11 @@ read_layer names scopes levels bytes (Sexp-F.List items start end) = read_items 
 unfoldable pub read_sexp : Names → Scopes → ℕ → List ℕ → Sexp → Reader CommandTree
 read_sexp names scopes levels bytes sexp = read_layer names scopes levels bytes (out-Sexp sexp)
 
--- what is read at a place, if it keeps the limits, with what is in force behind it
-abbrev pub settled : ℕ → List ℕ → Result (CommandTree × State) ScriptError → Result (CommandTree × InForce) ScriptError
-settled at levels (Ok p) = and (limited at (terms_of p.0 ++ p.1.bound)) (λ _. Ok (p.0, changed p.0 (record { symbols = p.1.symbols; levels = levels })))
-settled at levels (Err e) = Err e
+-- what is read at a place, where this is in force, if it keeps the limits, with what is in force behind it
+abbrev pub settled : ℕ → InForce → Result (CommandTree × State) ScriptError → Result (CommandTree × InForce) ScriptError
+settled at s (Ok p) = and (limited at s.asserts (terms_of p.0 ++ p.1.bound)) (λ _. Ok (p.0, changed p.0 (record s { symbols = p.1.symbols })))
+settled at s (Err e) = Err e
 
 -- The command that an s-expression spells, and what is in force behind it, or the first refusal.
 abbrev pub read_command : Names → List ℕ → Sexp → InForce → Result (CommandTree × InForce) ScriptError
-read_command names bytes sexp s = settled (start_of sexp) s.levels (read_sexp names [] (length s.levels) bytes sexp (record { symbols = s.symbols; bound = []; in_body = false }))
+read_command names bytes sexp s = settled (start_of sexp) s (read_sexp names [] (length s.levels) bytes sexp (record { symbols = s.symbols; bound = []; in_body = false }))

@@ -22,7 +22,7 @@ mod reading;
 mod symbols;
 mod using;
 
-pub use levels::Levels;
+pub use levels::{Level, Levels};
 pub use limits::DEPTH;
 pub use pushing::LEVELS;
 pub use read::read_command;

@@ -5,6 +5,7 @@ ghost use Rattle.qterm.specs.Tree.{Tree};
 ghost use Rattle.qterm.specs.Store.{Extends};
 ghost use Rattle.smt_words.specs.Command.{command_tree, script_tree};
 ghost use Rattle.smt_names.specs.Table.{AreThere};
+ghost use Rattle.term_limits.specs.Limits.{IsCounted};
 ghost use Rattle.smt_command.specs.Change.{in_force};
 ghost use Rattle.smt_command.specs.Given.{HasTerms, IsCommandIn, IsFound};
 ghost use Rattle.smt_command.specs.Laws.{AreLawful};
@@ -27,7 +28,8 @@ pub(crate) enum Found {
 }
 
 /// The commands that the bytes spell, up to the first `(exit)`, the end, or the first fault, with their terms in the store. Where
-/// names of reducers are given, a strategy may name these alone. No term is deeper than 1,000.
+/// names of reducers are given, a strategy may name these alone. No term is deeper than 1,000, and those of a command have no more than
+/// 1,048,576 distinct subterms together with the assertions in force.
 ///
 /// The terms of the store stay. After want of memory there may be more than before.
 pub fn commands(
@@ -92,6 +94,7 @@ fn stands_at(
 ) -> Result<Found, AllocError>
     requires few { length symbols.old.levels ≤ 65536 }
     requires there { AreThere store.old symbols.old.state.symbols }
+    requires counted { IsCounted store.old symbols.old.asserts }
     ensures found { IfOk result (IsFound store.new symbols.new (spec.first_of (option_copied reducers.entry) bytes.now (in_force store.old symbols.old) next)) }
     ensures few { length symbols.new.levels ≤ 65536 }
     ensures there { AreThere store.new symbols.new.state.symbols }
@@ -133,6 +136,7 @@ fn command_at(
 ) -> Result<Found, AllocError>
     requires few { length symbols.old.levels ≤ 65536 }
     requires there { AreThere store.old symbols.old.state.symbols }
+    requires counted { IsCounted store.old symbols.old.asserts }
     ensures found { IfOk result (IsFound store.new symbols.new (spec.command_at (option_copied reducers.entry) bytes.now (in_force store.old symbols.old) sexp.now end)) }
     ensures few { length symbols.new.levels ≤ 65536 }
     ensures there { AreThere store.new symbols.new.state.symbols }

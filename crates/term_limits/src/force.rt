@@ -1,5 +1,5 @@
 //! Assertions in force, with their distinct subterms.
-ghost use Rattle.std.specs.Prelude.{◌≡◌, ◌++◌, ◌∷◌, [], List, All, IfOk, OnOk, take};
+ghost use Rattle.std.specs.Prelude.{◌≡◌, ◌++◌, ◌∷◌, [], List, All, IfOk, OnOk, OnErr, take};
 ghost use Rattle.qterm.specs.Tree.{Tree};
 ghost use Rattle.qterm.specs.Store.{Has, trees_of};
 ghost use Rattle.term_limits.specs.Limits as spec;
@@ -76,6 +76,7 @@ impl InForce {
         requires has { All (Has store.now) read.now }
         ensures limit { IfOk result (λ l. l ≡ spec.limit_of (trees_of store.now self.old.ids) (trees_of store.now read.now)) }
         ensures same { OnOk result (self.new ≡ self.old) }
+        ensures ids { self.new.ids ≡ self.old.ids }
     {
         if deepest(alloc, store, read)? > DEEPEST {
             return Ok(Limit::TooDeep);
@@ -93,6 +94,7 @@ impl InForce {
         requires has { All (Has store.now) read.now }
         ensures count { IfOk result (λ n. n ≡ spec.subterms_with (trees_of store.now self.old.ids) (trees_of store.now read.now)) }
         ensures same { OnOk result (self.new ≡ self.old) }
+        ensures ids { self.new.ids ≡ self.old.ids }
     {
         store.is_distinct();
         let before = self.seen.len();
@@ -107,6 +109,7 @@ impl InForce {
         requires counted { IsCounted store.now self.old }
         requires has { Has store.now id }
         ensures pushed { OnOk result (self.new.ids ≡ self.old.ids ++ id ∷ []) }
+        ensures err { OnErr result (self.new.ids ≡ self.old.ids) }
         ensures counted { OnOk result (IsCounted store.now self.new) }
     {
         let before = self.seen.len();

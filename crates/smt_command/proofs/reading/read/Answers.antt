@@ -1,15 +1,37 @@
-use Rattle.std.proofs.Common.{◌≡◌, ◌∙◌, ◌++◌, ◌∷◌, [], map, None, sym, ap}
+use Rattle.std.proofs.Common.{◌≡◌, ◌∙◌, ◌++◌, ◌∷◌, [], List, length, map, None, All, sym, ap, subst, arith}
 use Rattle.std.specs.Option.{option_copied}
 use Rattle.sexp_read.specs.Sexp.{next_at}
-use Rattle.qterm.proofs.Extending.{Extends_trans}
+use Rattle.qterm.proofs.Extending.{Extends_refl, Extends_trans}
+use Rattle.qterm.proofs.Alls.{All-nil}
+use Rattle.smt_words.specs.declared.script.Placed.{Placed}
 use Rattle.smt_words.specs.Command.{ScriptTree, placed_tree}
+use Rattle.smt_names.specs.Table.{Entry, AreThere, IsThere}
 use Rattle.smt_command.specs.declared.reading.Found.TheVariants as found
 use Rattle.smt_command.specs.Change.{in_force}
 use Rattle.smt_command.specs.Given.{IsFound}
-use Rattle.smt_command.specs.Script.{Ends, Goes, first_of, script_at}
-use Rattle.smt_command.proofs.Placed.{placed_extends, placed_more, in_more}
+use Rattle.smt_command.specs.Script.{Ends, Goes, first_of, script_at, script_of}
+use Rattle.smt_command.proofs.Forces.{force_reset}
+use Rattle.smt_command.proofs.Placed.{IsPlacedIn, placed_extends, placed_more, in_more}
 use Rattle.smt_command.proofs.Scripts.{after_commands, script_ends, script_exits, script_goes, script_over, goes_within, all_told, exit_told}
 use Rattle.smt_command.proofs.reading.read.Goals as goal
+
+pub loop-at-init : goal.loop-at-init
+unfolding script_of
+loop-at-init c =
+    let bytes = c.args.bytes.now in
+    let names = option_copied c.args.reducers in
+    let ts = c.args.store.now in
+    let start = c.new-symbols.result in
+    let b = c.new-symbols.ensures in
+    record {
+      within = omega arith;
+      told = ap (λ (cs : List Placed). after_commands (map (placed_tree ts) cs) (script_at names bytes 0 (in_force ts start))) c.new-commands.ensures ∙ ap (script_at names bytes 0) (force_reset ts start start b.symbols b.asserts b.levels);
+      terms = subst (All (IsPlacedIn ts)) (sym c.new-commands.ensures) (All-nil (IsPlacedIn ts));
+      few = let l = ap length b.levels in omega (arith, l);
+      there = subst (AreThere ts) (sym b.symbols) (All-nil (λ (e : Entry). IsThere ts e.1));
+      counted = b.counted ts;
+      extends = Extends_refl ts;
+    }
 
 pub returns-in-Ends-clause-script : goal.returns-in-Ends-clause-script
 returns-in-Ends-clause-script c =
@@ -39,6 +61,9 @@ returns-then-ends-clause-script c =
     (placed_more now.store us now.commands placed c.in_ok-fault.ensures.extends now.invariant.terms)
     (script_exits names bytes now.at s c.loop-at-test.true (placed_tree us placed) c.in-Goes.end (in_force us c.stands_at.new.symbols) is (sym (c.if-ends.ensures us)))
     now.invariant.told)
+
+pub returns-then-ends-clause-store : goal.returns-then-ends-clause-store
+returns-then-ends-clause-store c = Extends_trans c.args.store.now c.loop-at.store c.stands_at.new.store c.loop-at.invariant.extends c.in_ok-fault.ensures.extends
 
 pub returns-then-ends-clause-within : goal.returns-then-ends-clause-within
 returns-then-ends-clause-within c =
@@ -71,6 +96,7 @@ loop-at-preserved c =
       terms = rw c.in_ok-push-in-Goes.ensures.ok (in_more now.store us now.commands placed c.in_ok-fault.ensures.extends now.invariant.terms found.1);
       few = c.in_ok-fault.ensures.few;
       there = c.in_ok-fault.ensures.there;
+      counted = found.2;
       extends = Extends_trans c.args.store.now now.store us now.invariant.extends c.in_ok-fault.ensures.extends;
     }
 

@@ -3,6 +3,7 @@ use Rattle.std.specs.Option.{option_copied}
 use Rattle.qterm.specs.Store.{Extends}
 use Rattle.smt_words.specs.Command.{placed_tree}
 use Rattle.smt_names.specs.Table.{AreThere}
+use Rattle.term_limits.specs.Limits.{IsCounted}
 use Rattle.smt_command.specs.Change.{in_force}
 use Rattle.smt_command.specs.Script.{script_at, script_of}
 use Rattle.smt_command.proofs.Scripts.{after_commands}
@@ -17,6 +18,7 @@ invariant-loop-at l = record {
   terms : All (IsPlacedIn l.store) l.commands;
   few : length l.symbols.levels ≤ 65536;
   there : AreThere l.store l.symbols.state.symbols;
+  counted : IsCounted l.store l.symbols.asserts;
   extends : Extends l.fn.store l.store;
 }
 
