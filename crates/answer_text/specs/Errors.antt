@@ -28,7 +28,6 @@ fault_text what.BadStrategy = codes "bad strategy"
 fault_text what.NoAnswer = codes "no answer to show"
 fault_text what.WideValue = codes "value past 128 bits"
 fault_text what.TooLong = codes "script too long"
-fault_text what.NotYet = codes "not supported yet"
 
 -- the line of a fault at a place of these bytes
 unfoldable pub error_line : List ℕ → What → ℕ → List ℕ

@@ -70,6 +70,5 @@ fn fault_text(what: What) -> &'static [u8]
         What::NoAnswer => b"no answer to show",
         What::WideValue => b"value past 128 bits",
         What::TooLong => b"script too long",
-        What::NotYet => b"not supported yet",
     }
 }

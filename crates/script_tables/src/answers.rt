@@ -96,7 +96,7 @@ const FOUR_CLAUSES: [Row; 2] = [
 ];
 
 /// Scripts over an integer.
-const NUMBERS: [Row; 7] = [
+const NUMBERS: [Row; 8] = [
     (
         "(assert (< (* 2 x) 5))(apply simplify)",
         0,
@@ -138,6 +138,12 @@ const NUMBERS: [Row; 7] = [
         0,
         1,
         "(goals\n(goal precise\n  (<= (- x!0) 0)\n  (<= x!0 7)\n)\n)\n",
+    ),
+    (
+        "(define-fun f ((y Int)) Int (+ y y))(check-sat-using skip)(get-value ((f x)))",
+        0,
+        1,
+        "sat\n(((f x) 0))\n",
     ),
 ];
 

@@ -60,7 +60,13 @@ fn stops_at_faults(rt: HostRuntime) -> Result<(), Fail> {
 fn tells_its_usage(rt: HostRuntime) -> Result<(), Fail> {
     let registry = built(rt.alloc())?;
     let script = "(check-sat-using sat)";
-    let table: [&[&str]; 4] = [&["run", "run"], &[], &["gen"], &["RUN"]];
+    let table: [&[&str]; 5] = [
+        &["run", "run"],
+        &[],
+        &["gen"],
+        &["RUN"],
+        &["run", "--workers", "65"],
+    ];
     for words in table {
         let Left {
             status,

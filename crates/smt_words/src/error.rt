@@ -49,8 +49,6 @@ pub enum What {
     WideValue,
     /// More bytes than a script may have.
     TooLong,
-    /// A form that isn't built.
-    NotYet,
 }
 
 /// A fault of a script, with the place in its bytes, counted from 0.
