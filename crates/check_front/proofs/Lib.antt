@@ -1,0 +1,4 @@
+mod Passed
+mod Taken
+mod Judgements
+mod Told
